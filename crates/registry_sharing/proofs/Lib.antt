@@ -1,1 +1,2 @@
 pub mod MadeBatches
+pub mod Receipted

@@ -1,13 +1,15 @@
 //! Rounds of sharing of a node behind a lock.
 
-ghost use Rattle.std.specs.Prelude.{◌≡◌, []};
-ghost use Rattle.registry_sharing.specs.Rounds.{IsShareRound, Shares};
+ghost use Rattle.std.specs.Prelude.{◌≡◌, ◌+◌, ◌≤◌, [], length, IfOk};
+ghost use Rattle.node_registry.specs.Receipts.{AreGivenSince};
+ghost use Rattle.registry_sharing.specs.Rounds.{AreCallsFrom, IsRoundWith, IsShareRound, Shares};
+ghost use Rattle.registry_sharing.specs.Rounds.{SharesWith};
 
-use node_core::{NodeCore, NodeFault};
+use node_core::{NodeCore, NodeFault, Receipt};
 use node_registry::{Batch, Label, Registry, Seat};
 use node_sharing::share;
 use sharing::Memory;
-use std::alloc::Global;
+use std::alloc::{AllocError, Global};
 use std::marker::Model;
 use std::sync::Wait;
 
@@ -50,6 +52,62 @@ impl Sharing {
             self.old self.new result }
     {
         registry.make_batch(rt, alloc, seat, self)
+    }
+
+    /// A round as `share`, which answers the receipt of each shift that was made, in their order. Where
+    /// a shift is refused, those before it have theirs, and the next round goes on from there. Where
+    /// memory is refused, some may be made that have none.
+    pub fn share_receipts<L: Label, R: Wait>(
+        &mut self,
+        rt: &R,
+        alloc: Global,
+        registry: &Registry<L>,
+        seat: &mut Seat<L>,
+    ) -> Result<Vec<Receipt>, AllocError>
+        ensures round { IfOk result (λ rs. IsRoundWith L.config L.seed L.keeps L.parts
+            seat.old seat.new self.old self.new rs.items) }
+        ensures given { IfOk result (λ rs. AreGivenSince L.config L.seed seat.old rs.items) }
+    {
+        registry.make_batch(rt, alloc, seat, self)
+    }
+}
+
+// The receipts of the calls that a node keeps from this place on.
+fn receipts_from(node: &NodeCore, alloc: Global, from: u64) -> Result<Vec<Receipt>, AllocError>
+    requires kept { node.now.from ≤ from }
+    requires there { from ≤ length node.now.trace }
+    ensures calls { IfOk result (λ rs. AreCallsFrom node.now from rs.items) }
+    ensures all { IfOk result (λ rs. from + length rs.items ≡ length node.now.trace) }
+{
+    let number = node.config().node;
+    let mut receipts = Vec::new(alloc);
+    for index in from..node.calls() {
+        let Some(call) = node.at(index) else {
+            unreachable!();
+        };
+        let entry = call.to_entry(alloc)?;
+        receipts.push(Receipt {
+            node: number,
+            index,
+            entry,
+        })?;
+    }
+    Ok(receipts)
+}
+
+impl Batch<Result<Vec<Receipt>, AllocError>> for Sharing {
+    ghost comes = { λ was now k new answer.
+        IfOk answer (λ rs. SharesWith was now k new rs.items) };
+
+    fn make(&mut self, alloc: Global, node: &mut NodeCore) -> Result<Vec<Receipt>, AllocError> {
+        // This says that the node keeps its calls from now on, and nothing else is wanted of it.
+        let _ = node.from();
+        let before = node.calls();
+        let shared = share(node, alloc, &mut self.memory);
+        if let Err(NodeFault::OutOfMemory) = shared {
+            return Err(AllocError);
+        }
+        receipts_from(node, alloc, before)
     }
 }
 

@@ -1,25 +1,37 @@
 -- What a script of threads that is checked comes to.
-use Rattle.std.specs.Prelude.{◌≡◌, ℕ, ◌+◌, ◌^◌, Bool, List, [], ◌∷◌, ◌++◌, nat_lt, slice_get, if◌then◌else◌, IfOk, Option, Some, None, Ok}
+use Rattle.std.specs.Prelude.{◌≡◌, ℕ, ◌+◌, ◌^◌, Bool, List, [], ◌∷◌, ◌++◌, nat_lt, slice_get, if◌then◌else◌, codes, IfOk, Option, Some, None, Ok}
 use Rattle.audit.specs.Receipts.{Lists}
 use Rattle.audit.specs.Traces.{Traces}
 use Rattle.scripts.specs.Checks.{checked_text}
 use Rattle.thread_plans.specs.BadLines.{bad_text}
+use Rattle.thread_plans.specs.declared.plan.RoundKind.{RoundKind}
+use Rattle.thread_plans.specs.declared.plan.RoundKind.TheVariants as kinds
+use Rattle.thread_plans.specs.declared.plan.Rounds.{Rounds}
 use Rattle.thread_plans.specs.Plans.{PlanValue, plan_in}
 use Rattle.thread_scripts.specs.Outputs.{IsJudged}
 use Rattle.thread_scripts.specs.Plays.{AreListsOf, AreTracesOf}
 use Rattle.thread_scripts.specs.Warnings.{warned_text}
 use Rattle.thread_checks.specs.declared.views.View.TheVariants as views
 use Rattle.thread_checks.specs.Scans.{scan_text}
-use Rattle.thread_checks.specs.Views.{firsts_in, view_of}
+use Rattle.thread_checks.specs.Views.{all_rounds, view_of}
 
--- the rounds of a node: first those before the workers, if there are any, and then those beside them
-abbrev pub rounds_with : Option ℕ → Option ℕ → Option ℕ
-rounds_with None gossip = gossip
-rounds_with (Some first) None = Some first
-rounds_with (Some first) (Some beside) = Some (if nat_lt (first + beside) (2 ^ 32) then first + beside else 4294967295)
+-- so many rounds and so many more, as far as a node does so many
+abbrev pub rounds_sum : ℕ → ℕ → ℕ
+rounds_sum first beside = if nat_lt (first + beside) (2 ^ 32) then first + beside else 4294967295
 
-abbrev pub with_first : PlanValue → Option ℕ → PlanValue
-with_first plan first = record plan { gossip = rounds_with first plan.gossip }
+abbrev pub some_rounds : ℕ → RoundKind → Option Rounds
+some_rounds count kind = Some (record { count = count; kind = kind })
+
+-- the rounds of a node, all of which are of this kind: first those before the workers, if there are any, and then those
+-- beside them
+abbrev pub rounds_with : Option ℕ → Option Rounds → RoundKind → Option Rounds
+rounds_with None None kind = None
+rounds_with None (Some beside) kind = some_rounds beside.count kind
+rounds_with (Some first) None kind = some_rounds first kind
+rounds_with (Some first) (Some beside) kind = some_rounds (rounds_sum first beside.count) kind
+
+abbrev pub with_rounds : PlanValue → Option ℕ → RoundKind → PlanValue
+with_rounds plan first kind = record plan { gossip = rounds_with first plan.gossip kind }
 
 abbrev pub without_starts : PlanValue → PlanValue
 without_starts plan = record plan { starts = [] }
@@ -28,8 +40,19 @@ without_starts plan = record plan { starts = [] }
 abbrev pub plain_text : List ℕ → List ℕ
 plain_text script = view_of views.Plan script
 
-abbrev pub first_of : List ℕ → Option ℕ
-first_of script = slice_get (firsts_in script) 0
+-- the rounds of the first line with such a last word
+abbrev pub rounds_asked : List ℕ → List ℕ → Option ℕ
+rounds_asked meant script = slice_get (all_rounds meant script) 0
+
+-- the nodes share their rights where some line says so
+abbrev pub kind_by : Option ℕ → RoundKind
+kind_by None = kinds.Telling
+kind_by (Some rounds) = kinds.Sharing
+
+-- the plan that is played: with the rounds before the workers, and of the kind that the script says
+abbrev pub plan_with : List ℕ → PlanValue → PlanValue
+plan_with script plan =
+    with_rounds plan (rounds_asked (codes "first") script) (kind_by (rounds_asked (codes "share") script))
 
 -- What is said of the lines that fail, of which waits in these lines were in vain, by what was printed and whether the
 -- audit says yes: of those before the workers as of a script of calls that is checked; of the workers what a run is
@@ -50,10 +73,10 @@ pub record IsChecked (script : List ℕ) (traces : Traces) (lists : Lists) (text
   pub vain : List ℕ
   pub explained : Bool
   pub read : plan_in (plain_text script) ≡ Ok plan
-  pub legal : AreTracesOf (with_first plan (first_of script)) traces
-  pub given : AreListsOf (with_first plan (first_of script)) lists
-  pub judged : IsJudged (with_first plan (first_of script)) traces lists text explained
-  pub failed : said ≡ failed_text script (with_first plan (first_of script)) lists vain text explained
+  pub legal : AreTracesOf (plan_with script plan) traces
+  pub given : AreListsOf (plan_with script plan) lists
+  pub judged : IsJudged (plan_with script plan) traces lists text explained
+  pub failed : said ≡ failed_text script (plan_with script plan) lists vain text explained
 
 -- this is so of what it prints, and this of what is said of it
 abbrev pub ChecksSaying : List ℕ → (List ℕ → Type 0) → (List ℕ → Type 0) → Type 0

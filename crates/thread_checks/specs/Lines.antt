@@ -54,17 +54,25 @@ await_in line = do
   parts ← cut_of text
   awaited_in (parts.1)
 
-abbrev pub first_rounds : List ℕ → List ℕ → List ℕ → Option ℕ
-first_rounds word rounds last =
-    if bytes_eq word (codes "gossip") && bytes_eq last (codes "first") then word_of rounds else None
+-- the rounds, where the first word and the last are those that are meant
+abbrev pub rounds_if : List ℕ → List ℕ → List ℕ → List ℕ → Option ℕ
+rounds_if meant word rounds last =
+    if bytes_eq word (codes "gossip") && bytes_eq last meant then word_of rounds else None
 
--- `gossip <rounds> first`
-abbrev pub first_in : List ℕ → Option ℕ
-first_in line = do
+-- `gossip <rounds> <meant>`
+abbrev pub rounds_in : List ℕ → List ℕ → Option ℕ
+rounds_in meant line = do
   text ← text_in line
   parts ← cut_of text
   more ← cut_of (parts.1)
-  first_rounds (parts.0) (more.0) (more.1)
+  rounds_if meant (parts.0) (more.0) (more.1)
+
+-- `gossip <rounds> first`, and `gossip <rounds> share`
+abbrev pub first_in : List ℕ → Option ℕ
+first_in line = rounds_in (codes "first") line
+
+abbrev pub share_in : List ℕ → Option ℕ
+share_in line = rounds_in (codes "share") line
 
 abbrev pub is_own : List ℕ → Bool
 is_own line = is_expect line || (is_await line || is_some (first_in line))

@@ -2,9 +2,9 @@
 
 ghost use Rattle.std.specs.Prelude.{◌≡◌, is_some, option_map};
 ghost use Rattle.std.specs.List.{position};
-ghost use Rattle.thread_checks.specs.Lines.{await_in, awaited_in, dot_cut_of, first_in, first_rounds};
+ghost use Rattle.thread_checks.specs.Lines.{await_in, awaited_in, dot_cut_of, first_in, rounds_if};
 ghost use Rattle.thread_checks.specs.Lines.{is_await, is_dot, is_expect, is_own, is_spread, is_start_call};
-ghost use Rattle.thread_checks.specs.Lines.{is_worker, named_in, stamp_in, stamped_in};
+ghost use Rattle.thread_checks.specs.Lines.{is_worker, named_in, rounds_in, share_in, stamp_in, stamped_in};
 
 use decimals::{amount, byte, word};
 use stamp_register::Stamp;
@@ -79,23 +79,37 @@ pub(crate) fn await_in(line: &[u8]) -> Option<(&str, Option<Stamp>)>
     awaited_in(rest)
 }
 
-fn first_rounds(first: &str, rounds: &str, last: &str) -> Option<u32>
-    ensures { result ≡ first_rounds first.now rounds.now last.now }
+fn rounds_if(meant: &str, first: &str, rounds: &str, last: &str) -> Option<u32>
+    ensures { result ≡ rounds_if meant.now first.now rounds.now last.now }
 {
-    if first == "gossip" && last == "first" {
+    if first == "gossip" && last == meant {
         word(rounds)
     } else {
         None
     }
 }
 
+/// The rounds of a line `gossip <rounds> <meant>`.
+pub(crate) fn rounds_in(meant: &str, line: &[u8]) -> Option<u32>
+    ensures { result ≡ rounds_in meant.now line.now }
+{
+    let (first, rest) = cut(text_of(line)?)?;
+    let (rounds, last) = cut(rest)?;
+    rounds_if(meant, first, rounds, last)
+}
+
 /// The rounds of gossip that a line says come before the workers.
 pub(crate) fn first_in(line: &[u8]) -> Option<u32>
     ensures { result ≡ first_in line.now }
 {
-    let (first, rest) = cut(text_of(line)?)?;
-    let (rounds, last) = cut(rest)?;
-    first_rounds(first, rounds, last)
+    rounds_in("first", line)
+}
+
+/// The rounds of gossip in each of which, as a line says, the nodes share their rights.
+pub(crate) fn share_in(line: &[u8]) -> Option<u32>
+    ensures { result ≡ share_in line.now }
+{
+    rounds_in("share", line)
 }
 
 /// Whether only a script that is checked has such a line.

@@ -5,18 +5,19 @@ ghost use Rattle.std.specs.Prelude.{string_bytes, vec_len};
 ghost use Rattle.streams.specs.declared.fault.ScriptFault.TheVariants.{BadLine, OutOfMemory};
 ghost use Rattle.thread_plans.specs.BadLines.{bad_text};
 ghost use Rattle.thread_plans.specs.Plans.{plan_in, plan_value};
-ghost use Rattle.thread_checks.specs.Checked.{IsChecked, IsSizeOf, first_of, plain_text, rounds_with};
-ghost use Rattle.thread_checks.specs.Checked.{with_first};
+ghost use Rattle.thread_checks.specs.Checked.{IsChecked, IsSizeOf, kind_by, plain_text, rounds_asked};
+ghost use Rattle.thread_checks.specs.Checked.{rounds_sum, rounds_with, with_rounds};
 
 use crate::awaits::{awaits_in, in_vain};
 use crate::failed::failures_of;
-use crate::views::{View, firsts_in, view_of};
+use crate::views::{View, all_rounds, view_of};
 use std::alloc::{AllocError, Global};
 use std::sync::Wait;
 use std::thread::Threads;
 use streams::{MOST_BYTES, ScriptFault};
 use thread_scripts::{
-    Played, Size, ThreadPlan, Waits, judged_output_of, play_waiting, read_plan_saying,
+    Played, RoundKind, Rounds, Size, ThreadPlan, Waits, judged_output_of, play_waiting,
+    read_plan_saying,
 };
 
 /// What a script that is checked came to: what it prints, and what is said of the lines that fail.
@@ -28,22 +29,30 @@ pub struct CheckedRun {
     pub said: Vec<u8>,
 }
 
-// The rounds of a node: first those before the workers, and then those beside them.
-fn rounds_with(first: Option<u32>, gossip: Option<u32>) -> Option<u32>
-    ensures { result ≡ rounds_with first gossip }
+fn rounds_sum(first: u32, beside: u32) -> u32
+    ensures { result ≡ rounds_sum first beside }
 {
-    match (first, gossip) {
-        (None, _) => gossip,
-        (Some(first), None) => Some(first),
-        (Some(first), Some(beside)) => match first.checked_add(beside) {
-            Some(rounds) => Some(rounds),
-            None => Some(4294967295),
-        },
+    match first.checked_add(beside) {
+        Some(rounds) => rounds,
+        None => 4294967295,
     }
 }
 
-fn with_first<'a>(plan: ThreadPlan<'a>, first: Option<u32>) -> ThreadPlan<'a>
-    ensures { plan_value result ≡ with_first (plan_value plan.entry) first }
+// The rounds of a node, all of this kind: first those before the workers, and then those beside them.
+fn rounds_with(first: Option<u32>, gossip: Option<Rounds>, kind: RoundKind) -> Option<Rounds>
+    ensures { result ≡ rounds_with first gossip kind }
+{
+    let count = match (first, gossip) {
+        (None, None) => return None,
+        (None, Some(beside)) => beside.count,
+        (Some(first), None) => first,
+        (Some(first), Some(beside)) => rounds_sum(first, beside.count),
+    };
+    Some(Rounds { count, kind })
+}
+
+fn with_rounds<'a>(plan: ThreadPlan<'a>, first: Option<u32>, kind: RoundKind) -> ThreadPlan<'a>
+    ensures { plan_value result ≡ with_rounds (plan_value plan.entry) first kind }
 {
     let ThreadPlan {
         size,
@@ -56,19 +65,29 @@ fn with_first<'a>(plan: ThreadPlan<'a>, first: Option<u32>) -> ThreadPlan<'a>
         size,
         seed,
         starts,
-        gossip: rounds_with(first, gossip),
+        gossip: rounds_with(first, gossip, kind),
         blocks,
     }
 }
 
-fn first_of(alloc: Global, script: &[u8]) -> Result<Option<u32>, AllocError>
-    ensures { IfOk result (λ first. first ≡ first_of script.now) }
+// The rounds of the first line `gossip <rounds> <meant>`.
+fn rounds_asked(alloc: Global, meant: &str, script: &[u8]) -> Result<Option<u32>, AllocError>
+    ensures { IfOk result (λ rounds. rounds ≡ rounds_asked meant.now script.now) }
 {
-    let firsts = firsts_in(alloc, script)?;
-    Ok(match firsts.get(0) {
-        Some(first) => Some(*first),
+    let all = all_rounds(alloc, meant, script)?;
+    Ok(match all.get(0) {
+        Some(rounds) => Some(*rounds),
         None => None,
     })
+}
+
+fn kind_by(shares: Option<u32>) -> RoundKind
+    ensures { result ≡ kind_by shares }
+{
+    match shares {
+        Some(_) => RoundKind::Sharing,
+        None => RoundKind::Telling,
+    }
 }
 
 // Plays the plan of a script that is checked.
@@ -86,8 +105,9 @@ fn check_plan<R: Threads + Wait + Sync>(
     ensures len { IfOk result (λ run. vec_len run.played.traces ≡ run.size.nodes) }
 {
     let size = plan.size;
-    let first = first_of(alloc, script)?;
-    let plan = with_first(plan, first);
+    let first = rounds_asked(alloc, "first", script)?;
+    let kind = kind_by(rounds_asked(alloc, "share", script)?);
+    let plan = with_rounds(plan, first, kind);
     let awaits = awaits_in(alloc, script)?;
     let waits = Waits::in_step(alloc, &plan, first.unwrap_or(0), awaits)?;
     let played = play_waiting(rt, alloc, &plan, &waits)?;

@@ -2,10 +2,11 @@
 
 ghost use Rattle.std.specs.Prelude.{◌≡◌, ◌++◌, ◌≤◌, length, IfOk, OnOk};
 ghost use Rattle.streams.specs.Fields.{output_line};
-ghost use Rattle.thread_checks.specs.Lines.{first_in};
-ghost use Rattle.thread_checks.specs.Views.{firsts_in, rounds_of, start_line, view_line, view_of, worked_after};
+ghost use Rattle.thread_checks.specs.Lines.{rounds_in};
+ghost use Rattle.thread_checks.specs.Views.{all_rounds, rounds_of, start_line, unshared, view_line};
+ghost use Rattle.thread_checks.specs.Views.{view_of, worked_after};
 
-use crate::lines::{first_in, is_expect, is_own, is_spread, is_worker};
+use crate::lines::{is_expect, is_own, is_spread, is_worker, rounds_in, share_in};
 use std::alloc::{AllocError, Global};
 use streams::MOST_BYTES;
 
@@ -33,18 +34,29 @@ fn start_line(line: &[u8]) -> &[u8]
     }
 }
 
+// A line `gossip <rounds> share` without its last word: as a line of a plan.
+fn unshared(line: &[u8]) -> &[u8]
+    ensures { result.now ≡ unshared line.now }
+{
+    if share_in(line).is_some() {
+        &line[..line.len().saturating_sub(6)]
+    } else {
+        line
+    }
+}
+
 // What is left of a line, where a worker was met before it or not.
 fn view_line(view: View, worked: bool, line: &[u8]) -> &[u8]
     ensures { result.now ≡ view_line view worked line.now }
 {
-    let is_left_out = match view {
-        View::Plan => is_own(line),
-        View::Starts => {
-            return if worked { &[] } else { start_line(line) };
-        }
-        View::Workers => line.starts_with(b"start "),
-    };
-    if is_left_out { &[] } else { line }
+    match view {
+        View::Plan if is_own(line) => &[],
+        View::Plan => unshared(line),
+        View::Starts if worked => &[],
+        View::Starts => start_line(line),
+        View::Workers if line.starts_with(b"start ") => &[],
+        View::Workers => line,
+    }
 }
 
 /// Whether a worker was met, with a line more.
@@ -82,22 +94,22 @@ pub(crate) fn view_of(alloc: Global, view: View, script: &[u8]) -> Result<Vec<u8
     Ok(text)
 }
 
-fn push_rounds(rounds: Option<u32>, firsts: &mut Vec<u32>) -> Result<(), AllocError>
-    ensures { OnOk result (firsts.new.items ≡ firsts.old.items ++ rounds_of rounds) }
+fn push_rounds(rounds: Option<u32>, all: &mut Vec<u32>) -> Result<(), AllocError>
+    ensures { OnOk result (all.new.items ≡ all.old.items ++ rounds_of rounds) }
 {
     if let Some(rounds) = rounds {
-        firsts.push(rounds)?;
+        all.push(rounds)?;
     }
     Ok(())
 }
 
-/// The rounds that lines say come before the workers.
-pub(crate) fn firsts_in(alloc: Global, script: &[u8]) -> Result<Vec<u32>, AllocError>
-    ensures { IfOk result (λ firsts. firsts.items ≡ firsts_in script.now) }
+/// The rounds of the lines `gossip <rounds> <meant>`.
+pub(crate) fn all_rounds(alloc: Global, meant: &str, script: &[u8]) -> Result<Vec<u32>, AllocError>
+    ensures { IfOk result (λ rounds. rounds.items ≡ all_rounds meant.now script.now) }
 {
-    let mut firsts = Vec::new(alloc);
+    let mut rounds = Vec::new(alloc);
     for line in script.split(|byte| *byte == b'\n') {
-        push_rounds(first_in(line), &mut firsts)?;
+        push_rounds(rounds_in(meant, line), &mut rounds)?;
     }
-    Ok(firsts)
+    Ok(rounds)
 }

@@ -9,7 +9,8 @@ use Rattle.message_format.specs.Limits.{max_nodes}
 use Rattle.node_calls.specs.Told.{AskTold}
 use Rattle.thread_plans.specs.Lines.{LineValue, StartValue, nodes_line, seed_line, worker_line, calls_line}
 use Rattle.thread_plans.specs.Plans.{BlockValue, PlanValue, StageValue, empty, sized, started, working, after_line, begin_block, blocks_at, calls_in, most_blocks, new_plan, whole_plan, with_block}
-use Rattle.thread_plans.specs.Grammar.{IsBlock, IsPlan, block_lines, gossip_lines, plan_lines, start_lines}
+use Rattle.thread_plans.specs.declared.plan.Rounds.{Rounds}
+use Rattle.thread_plans.specs.Grammar.{AreTelling, IsBlock, IsPlan, block_lines, gossip_lines, plan_lines, start_lines}
 use Rattle.thread_plans.proofs.Runs.{comes, comes-then}
 
 abbrev some_all : List LineValue → List (Option LineValue)
@@ -24,7 +25,7 @@ passed b x e = cond-true b (Some x) None e
 -- ---- before the workers
 
 -- a plan without workers
-abbrev idle : ℕ → ℕ → List ℕ → List (ℕ × StartValue) → Option ℕ → PlanValue
+abbrev idle : ℕ → ℕ → List ℕ → List (ℕ × StartValue) → Option Rounds → PlanValue
 idle n cap seed starts gossip = record {
   nodes = n;
   cap = cap;
@@ -53,11 +54,12 @@ starts_come n cap seed starts (s ∷ more) low =
     ∙ starts_come n cap seed (starts ++ s ∷ []) more low.1
     ∙ ap (λ ss. Some (started (idle n cap seed ss None))) (append_assoc starts (s ∷ []) more)
 
-gossip_comes : (n cap : ℕ) (seed : List ℕ) (starts : List (ℕ × StartValue)) (gossip : Option ℕ) →
-    comes (started (idle n cap seed starts None)) (some_all (gossip_lines gossip)) ≡ Some
+gossip_comes : (n cap : ℕ) (seed : List ℕ) (starts : List (ℕ × StartValue)) (gossip : Option Rounds) →
+    AreTelling gossip → comes (started (idle n cap seed starts None)) (some_all (gossip_lines gossip)) ≡ Some
     (started (idle n cap seed starts gossip))
-gossip_comes n cap seed starts None = refl
-gossip_comes n cap seed starts (Some rounds) = refl
+gossip_comes n cap seed starts None is = refl
+gossip_comes n cap seed starts (Some rounds) is =
+    λ i. Some (started (idle n cap seed starts (Some (record { count = rounds.count; kind = sym is i }))))
 
 -- ---- a worker
 
@@ -156,7 +158,7 @@ pub plan_comes : (p : PlanValue) → IsPlan p → ComeTo empty (plan_lines p) p
 plan_comes p is =
     let first = sized_comes p.nodes p.cap p.seed is.some_nodes is.few_nodes in
     let starts = starts_come p.nodes p.cap p.seed [] p.starts is.starts in
-    let gossip = gossip_comes p.nodes p.cap p.seed p.starts p.gossip in
+    let gossip = gossip_comes p.nodes p.cap p.seed p.starts p.gossip is.telling in
     let blocks = blocks_come p.blocks (started (idle p.nodes p.cap p.seed p.starts p.gossip))
     (idle p.nodes p.cap p.seed p.starts p.gossip) refl is.blocks is.few_blocks in
     let behind : comes (started (idle p.nodes p.cap p.seed p.starts None))

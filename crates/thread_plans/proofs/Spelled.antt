@@ -10,6 +10,7 @@ use Rattle.message_format.specs.Limits.{max_nodes}
 use Rattle.node_calls.specs.Told.{AskTold}
 use Rattle.thread_plans.specs.Lines.{LineValue, StartValue, nodes_line, seed_line, start_line, gossip_line, worker_line, calls_line}
 use Rattle.thread_plans.specs.Plans.{BlockValue, PlanValue, StageValue, empty, sized, started, working, add_calls, after_line, begin_block, blocks_at, calls_in, most_blocks, new_plan, whole_plan, with_block, with_gossip, with_start}
+use Rattle.thread_plans.specs.declared.plan.Rounds.{Rounds}
 use Rattle.thread_plans.specs.Grammar.{IsBlock, IsPlan, block_lines, gossip_lines, plan_lines, start_lines}
 use Rattle.thread_plans.proofs.Counts.{count_by-push}
 use Rattle.thread_plans.proofs.Runs.{comes}
@@ -20,7 +21,7 @@ if_some : {A : Type 0} (b : Bool) (x y : A) → (if b then Some x else None) ≡
 if_some true x y e = (refl, cc)
 if_some false x y e = absurd cc
 
-no_gossip : (gossip : Option ℕ) → is_none gossip ≡ true → gossip ≡ None
+no_gossip : (gossip : Option Rounds) → is_none gossip ≡ true → gossip ≡ None
 no_gossip None e = refl
 no_gossip (Some rounds) e = absurd cc
 
@@ -66,6 +67,7 @@ is_plan-block p b has = record {
   some_nodes = has.plan.some_nodes;
   few_nodes = has.plan.few_nodes;
   starts = has.plan.starts;
+  telling = has.plan.telling;
   blocks = All-push (IsBlock p.nodes) p.blocks b has.plan.blocks has.block;
   few_blocks = λ node.
       let pushed : blocks_at (with_block p b) node ≡ blocks_at p node + cond (b.node == node) 1 0 =
@@ -112,6 +114,7 @@ seed_known n cap bytes next is e =
           some_nodes = is.0;
           few_nodes = is.1;
           starts = tt;
+          telling = tt;
           blocks = tt;
           few_blocks =
               λ node. omega arith;
@@ -131,6 +134,7 @@ start_more p node start is low none =
           some_nodes = plan.some_nodes;
           few_nodes = plan.few_nodes;
           starts = All-push (λ s. s.0 < p.nodes) p.starts (node, start) plan.starts low;
+          telling = plan.telling;
           blocks = plan.blocks;
           few_blocks = plan.few_blocks;
         },
@@ -167,6 +171,7 @@ gossip_more p rounds is none =
           some_nodes = plan.some_nodes;
           few_nodes = plan.few_nodes;
           starts = plan.starts;
+          telling = refl;
           blocks = plan.blocks;
           few_blocks = plan.few_blocks;
         },

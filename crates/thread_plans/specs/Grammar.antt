@@ -4,6 +4,8 @@ use Rattle.std.specs.List.{AllByRecursion}
 use Rattle.message_format.specs.Limits.{max_nodes}
 use Rattle.streams.specs.Fields.{lines_of}
 use Rattle.streams.specs.Lines.{is_skipped}
+use Rattle.thread_plans.specs.declared.plan.RoundKind.TheVariants as kinds
+use Rattle.thread_plans.specs.declared.plan.Rounds.{Rounds}
 use Rattle.thread_plans.specs.Lines.{LineValue, StartValue, nodes_line, seed_line, start_line, gossip_line, worker_line, calls_line, line_in}
 use Rattle.thread_plans.specs.Plans.{BlockValue, PlanValue, blocks_at, calls_in, line_count, most_blocks}
 
@@ -14,9 +16,14 @@ block_lines b = worker_line b.node ∷ map (λ l. calls_line l.0 l.1) b.lines
 abbrev pub start_lines : List (ℕ × StartValue) → List LineValue
 start_lines starts = map (λ s. start_line s.0 s.1) starts
 
-abbrev pub gossip_lines : Option ℕ → List LineValue
+abbrev pub gossip_lines : Option Rounds → List LineValue
 gossip_lines None = []
-gossip_lines (Some rounds) = gossip_line rounds ∷ []
+gossip_lines (Some rounds) = gossip_line rounds.count ∷ []
+
+-- rounds that begin with the messages: no line of a plan asks for others
+abbrev pub AreTelling : Option Rounds → Type 0
+AreTelling None = Unit {0}
+AreTelling (Some rounds) = rounds.kind ≡ kinds.Telling
 
 -- the nodes, the seed, what is done before the workers, gossip if there is any, and the workers
 abbrev pub plan_lines : PlanValue → List LineValue
@@ -33,6 +40,7 @@ pub record IsPlan (p : PlanValue) : Type 0 where
   pub some_nodes : 1 ≤ p.nodes
   pub few_nodes : p.nodes ≤ max_nodes
   pub starts : AllByRecursion (λ s. s.0 < p.nodes) p.starts
+  pub telling : AreTelling p.gossip
   pub blocks : AllByRecursion (IsBlock p.nodes) p.blocks
   pub few_blocks : (node : ℕ) → blocks_at p node ≤ most_blocks
 

@@ -8,6 +8,8 @@ use Rattle.streams.specs.Fields.{newline, lines_of}
 use Rattle.streams.specs.Lines.{is_skipped}
 use Rattle.thread_plans.specs.declared.plan.Block.{Block}
 use Rattle.thread_plans.specs.declared.plan.CallLine.{CallLine}
+use Rattle.thread_plans.specs.declared.plan.RoundKind.TheVariants as kinds
+use Rattle.thread_plans.specs.declared.plan.Rounds.{Rounds}
 use Rattle.thread_plans.specs.declared.plan.StartLine.{StartLine}
 use Rattle.thread_plans.specs.declared.plan.ThreadPlan.{ThreadPlan}
 use Rattle.thread_plans.specs.declared.stage.Stage.{Stage}
@@ -24,7 +26,7 @@ pub record PlanValue : Type 0 where
   pub cap : ℕ
   pub seed : List ℕ
   pub starts : List (ℕ × StartValue)
-  pub gossip : Option ℕ
+  pub gossip : Option Rounds
   pub blocks : List BlockValue
 
 -- ---- the same of the code's values
@@ -69,8 +71,12 @@ new_plan nodes cap bytes = record { nodes = nodes; cap = cap; seed = bytes; star
 abbrev pub with_start : PlanValue → ℕ → StartValue → PlanValue
 with_start p node start = record p { starts = p.starts ++ (node, start) ∷ [] }
 
+-- so many rounds that begin with the messages
+abbrev pub telling : ℕ → Rounds
+telling rounds = record { count = rounds; kind = kinds.Telling }
+
 abbrev pub with_gossip : PlanValue → ℕ → PlanValue
-with_gossip p rounds = record p { gossip = Some rounds }
+with_gossip p rounds = record p { gossip = Some (telling rounds) }
 
 abbrev pub with_block : PlanValue → BlockValue → PlanValue
 with_block p b = record p { blocks = p.blocks ++ b ∷ [] }

@@ -15,7 +15,7 @@ mod worker_lines;
 pub use bad_lines::bad_lines_of;
 pub use line::Start;
 pub use line_calls::call_in_line;
-pub use plan::{Block, CallLine, Size, StartLine, ThreadPlan};
+pub use plan::{Block, CallLine, RoundKind, Rounds, Size, StartLine, ThreadPlan};
 pub use reading::read_plan;
 pub use stage::blocks_at;
 pub use worker_lines::worker_lines_of;

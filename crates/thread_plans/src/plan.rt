@@ -38,6 +38,22 @@ pub struct StartLine<'a> {
     pub start: Start<'a>,
 }
 
+/// What each round of gossip begins with.
+#[derive(Clone, Copy, Debug, PartialEq, Eq)]
+pub enum RoundKind {
+    /// The messages.
+    Telling,
+    /// The shifts by which the node shares its rights, and then the messages.
+    Sharing,
+}
+
+/// So many rounds of gossip.
+#[derive(Clone, Copy)]
+pub struct Rounds {
+    pub count: u32,
+    pub kind: RoundKind,
+}
+
 /// The plan of a run: its nodes, the seed of the random draws that their passes are given, what is
 /// done before the workers start, how many rounds of gossip the nodes do beside them, if any, and
 /// the workers' blocks, of which a node has 250 at most.
@@ -46,7 +62,7 @@ pub struct ThreadPlan<'a> {
     pub size: Size,
     pub seed: [u8; 32],
     pub starts: Vec<StartLine<'a>>,
-    pub gossip: Option<u32>,
+    pub gossip: Option<Rounds>,
     pub blocks: Vec<Block<'a>>,
     ghost few_blocks: { (node : ℕ) → count_by (λ b. b.node == node) blocks.items ≤ 250 },
 }

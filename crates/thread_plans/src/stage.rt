@@ -10,7 +10,7 @@ ghost use Rattle.thread_plans.specs.Plans.{block_value, plan_value, stage_value,
 ghost use Rattle.thread_plans.specs.Plans.{with_block};
 
 use crate::line::{Line, Start, read_line};
-use crate::plan::{Block, CallLine, Size, StartLine, ThreadPlan, Working};
+use crate::plan::{Block, CallLine, RoundKind, Rounds, Size, StartLine, ThreadPlan, Working};
 use message_format::MAX_NODES;
 use node_calls::AskRef;
 use std::alloc::{AllocError, Global};
@@ -150,7 +150,10 @@ fn set_gossip(mut plan: ThreadPlan<'_>, rounds: u32) -> Option<Stage<'_>>
     if plan.gossip.is_some() {
         return None;
     }
-    plan.gossip = Some(rounds);
+    plan.gossip = Some(Rounds {
+        count: rounds,
+        kind: RoundKind::Telling,
+    });
     Some(Stage::Started(plan))
 }
 

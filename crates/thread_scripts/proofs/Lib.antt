@@ -11,3 +11,4 @@ pub mod UnfitCalls
 pub mod Shorts
 pub mod ShortStarts
 pub mod Started
+pub mod Counted

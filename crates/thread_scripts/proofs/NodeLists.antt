@@ -1,17 +1,19 @@
 -- The lists of a node's receipts, and those of all nodes.
 use Rattle.std.proofs.Common.{◌≡◌, ◌∙◌, ℕ, ◌+◌, false, List, [], ◌∷◌, ◌++◌, length, length-append, map, ap, sym, refl, subst, append_assoc, Some, None, arith}
-use Rattle.std.specs.Prelude.{All}
+use Rattle.std.specs.Prelude.{All, Vec, Result, Ok, IfOk}
+use Rattle.std.specs.declared.alloc.AllocError.{AllocError}
+use Rattle.std.specs.declared.alloc.Global.{Global}
 use Rattle.std.specs.List.{AllZip, flat_map}
 use Rattle.std.proofs.lemmas.Grind.{flat_map-append}
 use Rattle.std.proofs.lemmas.List.{append-nil}
 use Rattle.node_steps.specs.declared.config.Config.{Config}
+use Rattle.node_calls.specs.declared.receipt.Receipt.{Receipt}
 use Rattle.node_calls.specs.Told.{ask_told}
 use Rattle.node_registry.specs.declared.workers.Done.{Done}
 use Rattle.node_registry.specs.declared.workers.Job.{Job}
 use Rattle.audit.specs.Receipts.{Lists}
 use Rattle.gossip.specs.Mailboxes.{Place}
-use Rattle.gossip.specs.declared.report.GossipReport.{GossipReport}
-use Rattle.gossip.specs.declared.report.Ended.TheVariants as ends
+use Rattle.thread_plans.specs.declared.plan.Rounds.{Rounds}
 use Rattle.thread_plans.specs.Plans.{BlockValue, PlanValue}
 use Rattle.thread_scripts.specs.Asks.{asks_of_block}
 use Rattle.thread_scripts.specs.Calls.{HandsBack, lack_memory}
@@ -38,20 +40,22 @@ of_workers {L = L} config seed blocks jobs dones was lists same back memory all 
 
 -- workers, and gossip beside them
 pub of_both : {L : Type 0} (config : Config) (seed : List ℕ) (blocks : List BlockValue) (jobs : List (Job L))
-    (dones : List (Done L)) (gossip : Place × ℕ) (now : Place) (r : GossipReport) (was between lists : Lists)
+    (dones : List (Done L)) (gossip : Place × Rounds) (now : Place) (answer : Result (Vec Receipt Global) AllocError)
+    (receipts : Vec Receipt Global) (was between lists : Lists)
     → map (λ (j : Job L). map ask_told j.asks.items) jobs ≡ map asks_of_block blocks
     → AllZip (λ (j : Job L) (d : Done L). HandsBack config seed (map ask_told j.asks.items) d) jobs dones
     → All (λ (d : Done L). lack_memory d.faults.items ≡ false) dones
-    → between ≡ was ++ map (λ (d : Done L). d.receipts) dones → lists ≡ between ++ r.receipts ∷ []
-    → r.ended ≡ ends.Done → IsGossip config seed gossip now r
+    → between ≡ was ++ map (λ (d : Done L). d.receipts) dones → answer ≡ Ok receipts
+    → lists ≡ between ++ receipts ∷ [] → IfOk answer (λ rs. IsGossip config seed gossip now rs.items)
     → AreOfWork config seed blocks (Some gossip) was lists
-of_both {L = L} config seed blocks jobs dones gossip now r was between lists same back memory first then ended is =
+of_both {L = L} config seed blocks jobs dones gossip now answer receipts was between lists same back memory first done
+    then is =
     let workers = map (λ (d : Done L). d.receipts) dones in record {
       workers = workers;
-      gossiped = r.receipts ∷ [];
-      all = then ∙ ap (λ ls. ls ++ r.receipts ∷ []) first ∙ append_assoc was workers (r.receipts ∷ []);
+      gossiped = receipts ∷ [];
+      all = then ∙ ap (λ ls. ls ++ receipts ∷ []) first ∙ append_assoc was workers (receipts ∷ []);
       worked = of_blocks config seed blocks jobs dones same back memory;
-      told = (r, now, refl, ended, is);
+      told = (receipts, now, refl, rw done at is);
     }
 
 -- the lists of no node

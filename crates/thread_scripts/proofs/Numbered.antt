@@ -33,6 +33,11 @@ pub IfOk-both : {T E : Type 0} (r : Result T E) (A B Q : T → Type 0) → ((x :
 IfOk-both (Ok x) A B Q both a b = both x a b
 IfOk-both (Err e) A B Q both a b = tt
 
+-- a fact of an answer gives another
+pub IfOk-map : {T E : Type 0} (r : Result T E) (A Q : T → Type 0) → ((x : T) → A x → Q x) → IfOk r A → IfOk r Q
+IfOk-map (Ok x) A Q then a = then x a
+IfOk-map (Err e) A Q then a = tt
+
 -- a fact of an answer, and one that holds where there is an answer, give a third
 pub IfOk-on : {T E : Type 0} (r : Result T E) (A Q : T → Type 0) (B : Type 0) → ((x : T) → A x → B → Q x) → IfOk r A →
     OnOk r B → IfOk r Q

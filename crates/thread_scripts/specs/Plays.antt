@@ -13,6 +13,7 @@ use Rattle.node_registry.specs.Refusals.{Refusal}
 use Rattle.audit.specs.Receipts.{Lists}
 use Rattle.audit.specs.Traces.{Traces}
 use Rattle.gossip.specs.Mailboxes.{Place, new_place}
+use Rattle.thread_plans.specs.declared.plan.Rounds.{Rounds}
 use Rattle.thread_plans.specs.Plans.{BlockValue, PlanValue}
 use Rattle.thread_scripts.specs.Asks.{asks_of_block}
 use Rattle.thread_scripts.specs.Calls.{AreOfStarts, AreOfThread}
@@ -45,7 +46,7 @@ abbrev pub blocks_of : PlanValue → ℕ → List BlockValue
 blocks_of plan node = filter (λ b. b.node == node) plan.blocks
 
 -- a node's wire before anything was sent, and the rounds of its gossip, if there is any
-abbrev pub gossip_at : PlanValue → ℕ → Option (Place × ℕ)
+abbrev pub gossip_at : PlanValue → ℕ → Option (Place × Rounds)
 gossip_at plan node = gossip_over (new_place plan.nodes node) plan.gossip
 
 -- a list of what a thread was given that was to do what a block asks
@@ -54,7 +55,7 @@ IsOfBlock config seed block list =
     (refusals : List Refusal) × AreOfThread config seed (asks_of_block block) list.items refusals
 
 -- behind lists that were there before: a list for each of a node's blocks, in their order, and that of its gossip
-pub record AreOfWork (config : Config) (seed : List ℕ) (blocks : List BlockValue) (gossip : Option (Place × ℕ))
+pub record AreOfWork (config : Config) (seed : List ℕ) (blocks : List BlockValue) (gossip : Option (Place × Rounds))
     (was lists : Lists) : Type 0 where
   pub workers : Lists
   pub gossiped : Lists
@@ -64,7 +65,7 @@ pub record AreOfWork (config : Config) (seed : List ℕ) (blocks : List BlockVal
 
 -- The lists of a node of a plan: of what it does before its workers, of each of its blocks, and of its gossip. It gave
 -- each to one seat, from its first call on
-pub record AreOfNode (config : Config) (seed : List ℕ) (plan : PlanValue) (gossip : Option (Place × ℕ)) (lists : Lists)
+pub record AreOfNode (config : Config) (seed : List ℕ) (plan : PlanValue) (gossip : Option (Place × Rounds)) (lists : Lists)
     : Type 0 where
   pub starts : Vec Receipt Global
   pub refused : List Refusal

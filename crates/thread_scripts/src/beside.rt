@@ -5,12 +5,14 @@ ghost use Rattle.std.specs.List.{AllZip};
 ghost use Rattle.node_calls.specs.Told.{ask_told};
 ghost use Rattle.node_registry.specs.Receipts.{AreGivenSince};
 ghost use Rattle.thread_scripts.specs.Calls.{HandsBack};
-ghost use Rattle.thread_scripts.specs.Gossips.{AreRounds, IsGossip};
+ghost use Rattle.thread_scripts.specs.Gossips.{AreOfKind, IsGossip, count_or};
 
+use crate::rounds::do_rounds;
 use crate::steps::StepWire;
 use crate::turns::Turns;
 use crate::waits::Waits;
-use gossip::{GossipReport, MailWire, gossip_rounds};
+use gossip::MailWire;
+use node_core::Receipt;
 use node_registry::{Done, Job, Label, Registry, Seat, run_workers};
 use std::alloc::{AllocError, Global};
 use std::marker::PhantomData;
@@ -19,21 +21,23 @@ use std::sync::Wait;
 use std::sync::atomic::{AtomicBool, Ordering};
 use std::thread;
 use std::thread::{Promise, PromisedHandle, Scope, Threads};
+use thread_plans::Rounds;
 
 /// The gossip of a node: so many rounds over its wire.
 #[derive(Drop)]
 pub(crate) struct Gossip {
     pub wire: MailWire,
-    pub rounds: u32,
+    pub rounds: Rounds,
 }
 
-/// What a node's gossip came to, all of which was done from one seat.
+/// What a node's gossip came to, all of which was done from one seat: the receipts of its calls, where
+/// memory wasn't refused.
 #[derive(Drop)]
 pub(crate) struct Gossiped<L: Label> {
     pub seat: Seat<L>,
     pub wire: MailWire,
-    pub report: GossipReport,
-    ghost counted: { seat ≡ vec_len report.receipts },
+    pub receipts: Result<Vec<Receipt>, AllocError>,
+    ghost counted: { count_or receipts seat ≡ seat },
 }
 
 /// What workers and gossip came to beside each other.
@@ -54,19 +58,19 @@ fn do_gossip<L: Label, R: Wait>(
     gossip: Gossip,
 ) -> Gossiped<L>
     requires { seat ≡ 0 }
-    ensures given { AreGivenSince L.config L.seed 0 result.report.receipts.items }
-    ensures rounds { AreRounds L.config L.seed gossip.wire result.wire gossip.rounds
-        result.report }
+    ensures given { IfOk result.receipts (λ rs. AreGivenSince L.config L.seed 0 rs.items) }
+    ensures rounds { IfOk result.receipts (λ rs. AreOfKind gossip.rounds.kind L.config L.seed
+        gossip.wire result.wire gossip.rounds.count rs.items) }
 {
     let Gossip { wire, rounds } = gossip;
     let mut wire = StepWire::over(wire, waits.steps(), node);
-    let report = gossip_rounds(rt, alloc, registry, &mut seat, &mut wire, rounds);
+    let receipts = do_rounds(rt, alloc, registry, &mut seat, &mut wire, rounds);
     waits.leave(node);
     let StepWire { mail, .. } = wire;
     Gossiped {
         seat,
         wire: mail,
-        report,
+        receipts,
     }
 }
 
@@ -82,11 +86,15 @@ fn run_gossip<L: Label, R: Wait>(
     gossip: Gossip,
 ) -> Gossiped<L>
     requires { seat ≡ 0 }
-    ensures { IsGossip L.config L.seed (gossip.wire, gossip.rounds) result.wire result.report }
+    ensures { IfOk result.receipts (λ rs.
+        IsGossip L.config L.seed (gossip.wire, gossip.rounds) result.wire rs.items) }
 {
     if refused.load(Ordering::SeqCst) {
-        let Gossip { wire, rounds: _ } = gossip;
-        let none = Gossip { wire, rounds: 0 };
+        let Gossip { wire, rounds } = gossip;
+        let none = Gossip {
+            wire,
+            rounds: Rounds { count: 0, ..rounds },
+        };
         do_gossip(rt, alloc, registry, waits, node, seat, none)
     } else {
         do_gossip(rt, alloc, registry, waits, node, seat, gossip)
@@ -141,12 +149,13 @@ struct Crew<'a, L: Label> {
 #[derive(Drop)]
 struct Gossips<L: Label> {
     wire: Snapshot<MailWire>,
-    rounds: u32,
+    rounds: Rounds,
     of: PhantomData<L>,
 }
 
 impl<L: Label> Promise<Gossiped<L>> for Gossips<L> {
-    ghost kept_by = { λ p g. IsGossip L.config L.seed (p.wire.value, p.rounds) g.wire g.report };
+    ghost kept_by = { λ p g. IfOk g.receipts (λ rs.
+        IsGossip L.config L.seed (p.wire.value, p.rounds) g.wire rs.items) };
 }
 
 // A gossip's thread, or what gossip came to where it couldn't start: no round.
@@ -167,7 +176,8 @@ fn start_gossip<'s, E, L: Label + Send + Sync + 's, R: Wait + Sync>(
     requires { seat ≡ 0 }
     ensures { MatchResult result
         (λ h. (h.promise.wire.value ≡ gossip.wire) × (h.promise.rounds ≡ gossip.rounds))
-        (λ g. IsGossip L.config L.seed (gossip.wire, gossip.rounds) g.wire g.report) }
+        (λ g. IfOk g.receipts (λ rs.
+        IsGossip L.config L.seed (gossip.wire, gossip.rounds) g.wire rs.items)) }
 {
     let promise = Gossips {
         wire: Snapshot::of(&gossip.wire),
@@ -178,8 +188,8 @@ fn start_gossip<'s, E, L: Label + Send + Sync + 's, R: Wait + Sync>(
         promise,
         move || -> Gossiped<L>
             requires { seat ≡ 0 }
-            ensures { IsGossip L.config L.seed (gossip.wire, gossip.rounds) result.wire
-                result.report }
+            ensures { IfOk result.receipts (λ rs.
+                IsGossip L.config L.seed (gossip.wire, gossip.rounds) result.wire rs.items) }
         { run_gossip(rt, alloc, registry, waits, node, refused, seat, gossip) },
     );
     match started {
@@ -192,8 +202,8 @@ fn start_gossip<'s, E, L: Label + Send + Sync + 's, R: Wait + Sync>(
 }
 
 fn join_gossip<L: Label, R: Threads>(rt: &R, gossiping: Gossiping<L>) -> Gossiped<L>
-    ensures { MatchResult gossiping (λ h. IsGossip L.config L.seed
-        (h.promise.wire.value, h.promise.rounds) result.wire result.report)
+    ensures { MatchResult gossiping (λ h. IfOk result.receipts (λ rs. IsGossip L.config L.seed
+        (h.promise.wire.value, h.promise.rounds) result.wire rs.items))
         (λ g. result ≡ g) }
 {
     match gossiping {
@@ -221,9 +231,9 @@ fn work_in<'s, E, L: Label + Send + Sync + 's, R: Threads + Wait + Sync>(
     ensures made { IfOk result (λ both.
         AllZip (λ j d. HandsBack L.config L.seed (map ask_told j.asks.items) d)
         crew.entry.jobs.items both.dones.items) }
-    ensures gossiped { IfOk result (λ both. IsGossip L.config L.seed
-        (crew.entry.gossip.wire, crew.entry.gossip.rounds) both.gossiped.wire
-        both.gossiped.report) }
+    ensures gossiped { IfOk result (λ both. IfOk both.gossiped.receipts (λ rs.
+        IsGossip L.config L.seed (crew.entry.gossip.wire, crew.entry.gossip.rounds)
+        both.gossiped.wire rs.items)) }
 {
     let Crew { seat, gossip, jobs } = crew;
     let gossiping = start_gossip(
@@ -260,8 +270,8 @@ pub(crate) fn work_and_gossip<L: Label + Send + Sync, R: Threads + Wait + Sync>(
     ensures made { IfOk result (λ both.
         AllZip (λ j d. HandsBack L.config L.seed (map ask_told j.asks.items) d)
         jobs.entry.items both.dones.items) }
-    ensures gossiped { IfOk result (λ both. IsGossip L.config L.seed
-        (gossip.wire, gossip.rounds) both.gossiped.wire both.gossiped.report) }
+    ensures gossiped { IfOk result (λ both. IfOk both.gossiped.receipts (λ rs.
+        IsGossip L.config L.seed (gossip.wire, gossip.rounds) both.gossiped.wire rs.items)) }
 {
     let crew = Crew { seat, gossip, jobs };
     let refused = AtomicBool::new(false);
@@ -278,9 +288,9 @@ pub(crate) fn work_and_gossip<L: Label + Send + Sync, R: Threads + Wait + Sync>(
             ensures made { IfOk result (λ both.
                 AllZip (λ j d. HandsBack L.config L.seed (map ask_told j.asks.items) d)
                 crew.entry.jobs.items both.dones.items) }
-            ensures gossiped { IfOk result (λ both. IsGossip L.config L.seed
-                (crew.entry.gossip.wire, crew.entry.gossip.rounds) both.gossiped.wire
-                both.gossiped.report) }
+            ensures gossiped { IfOk result (λ both. IfOk both.gossiped.receipts (λ rs.
+                IsGossip L.config L.seed (crew.entry.gossip.wire, crew.entry.gossip.rounds)
+                both.gossiped.wire rs.items)) }
         { work_in(scope, rt, alloc, registry, waits, node, refused, crew) },
     )
 }

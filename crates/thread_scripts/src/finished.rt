@@ -1,6 +1,6 @@
 //! Seats that are done.
 
-ghost use Rattle.std.specs.Prelude.{◌≡◌, ◌+◌, ◌++◌, ◌∷◌, [], false, map, sum, vec_len, All, IfOk};
+ghost use Rattle.std.specs.Prelude.{◌≡◌, ◌+◌, ◌++◌, ◌∷◌, [], false, map, sum, vec_len, All, IfOk, Ok};
 ghost use Rattle.std.specs.Prelude.{OnOk};
 ghost use Rattle.std.specs.List.{sum_by};
 ghost use Rattle.node_registry.specs.Receipts.{AreGivenSince};
@@ -8,7 +8,6 @@ ghost use Rattle.thread_scripts.specs.Calls.{lack_memory};
 ghost use Rattle.thread_scripts.specs.Plays.{AreListsAt};
 
 use crate::beside::Gossiped;
-use gossip::Ended;
 use node_core::{NodeFault, Receipt};
 use node_registry::{Done, Label, Seat};
 use std::alloc::{AllocError, Global};
@@ -99,21 +98,17 @@ impl<L: Label> Finished<L> {
     /// With the seat of a node's gossip, where memory wasn't refused.
     pub(crate) fn with_gossip(self, gossiped: Gossiped<L>) -> Result<Finished<L>, AllocError>
         requires given { AreListsAt L.config L.seed self.lists.items }
-        requires more { AreGivenSince L.config L.seed 0 gossiped.report.receipts.items }
+        requires more { IfOk gossiped.receipts (λ rs. AreGivenSince L.config L.seed 0 rs.items) }
         ensures len { IfOk result (λ all. vec_len all.seats ≡ vec_len self.seats + 1) }
         ensures given { IfOk result (λ all. AreListsAt L.config L.seed all.lists.items) }
-        ensures lists { IfOk result (λ all.
-            all.lists.items ≡ self.lists.items ++ gossiped.report.receipts ∷ []) }
-        ensures ended { OnOk result (gossiped.report.ended ≡ Ended.Done) }
+        ensures lists { IfOk result (λ all. (receipts : _) × (gossiped.receipts ≡ Ok receipts)
+            × (all.lists.items ≡ self.lists.items ++ receipts ∷ [])) }
     {
         let Gossiped {
             seat,
             wire: _,
-            report,
+            receipts,
         } = gossiped;
-        if report.ended == Ended::OutOfMemory {
-            return Err(AllocError);
-        }
-        self.with(seat, report.receipts)
+        self.with(seat, receipts?)
     }
 }

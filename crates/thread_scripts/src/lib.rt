@@ -6,9 +6,11 @@ mod asks;
 mod beside;
 mod finished;
 pub mod laws;
+mod lists;
 mod nodes;
 mod output;
 mod played;
+mod rounds;
 mod run;
 mod short;
 mod short_starts;
@@ -22,6 +24,8 @@ mod warnings;
 pub use output::{judged_output_of, output_of};
 pub use played::{Played, play, play_waiting};
 pub use run::{run_threads, run_threads_warning};
-pub use thread_plans::{Block, CallLine, Size, Start, StartLine, ThreadPlan, read_plan};
+pub use thread_plans::{
+    Block, CallLine, RoundKind, Rounds, Size, Start, StartLine, ThreadPlan, read_plan,
+};
 pub use waits::{Await, Waits};
 pub use warnings::{read_plan_saying, warnings_of};

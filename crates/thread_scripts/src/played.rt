@@ -8,6 +8,7 @@ ghost use Rattle.thread_scripts.specs.Plays.{AllFrom, AreListsOf, AreOfNode, Are
 ghost use Rattle.thread_scripts.specs.Plays.{IsTraceOf, config_at, gossip_at};
 
 use crate::beside::Gossip;
+use crate::lists::put_behind;
 use crate::nodes::{NodeJob, NodePlayed, run_node};
 use crate::waits::Waits;
 use gossip::MailWire;
@@ -16,7 +17,7 @@ use std::alloc::{AllocError, Global};
 use std::sync::Wait;
 use std::thread;
 use std::thread::Threads;
-use thread_plans::ThreadPlan;
+use thread_plans::{Rounds, ThreadPlan};
 
 /// What a plan came to: the traces of its nodes, in their order, and of each seat the receipts of its
 /// calls, in their order.
@@ -57,7 +58,7 @@ impl Played {
             lists: others,
         } = node;
         traces.push(trace)?;
-        lists.extend(others)?;
+        put_behind(&mut lists, others)?;
         Ok(Played { traces, lists })
     }
 
@@ -74,7 +75,7 @@ impl Played {
 }
 
 // The gossip of a node over its wire, if it does so many rounds.
-fn gossip_over(wire: MailWire, rounds: Option<u32>) -> Option<Gossip>
+fn gossip_over(wire: MailWire, rounds: Option<Rounds>) -> Option<Gossip>
     ensures { gossip_over wire rounds ≡ option_map (λ g. (g.wire, g.rounds)) result }
 {
     match rounds {

@@ -6,6 +6,7 @@ ghost use Rattle.node_registry.specs.Receipts.{AreGivenSince};
 ghost use Rattle.thread_plans.specs.Plans.{start_line_value};
 ghost use Rattle.thread_scripts.specs.Calls.{Adds, AreMade, AreOfLine, AreOfSpread, AreOfStarts};
 
+use crate::lists::put_behind;
 use gossip::{Ended, spread};
 use node_core::{AskRef, NodeFault, Receipt};
 use node_registry::{Label, Refusals, Registry, Seat};
@@ -70,8 +71,7 @@ fn spread_rights<L: Label, R: Wait>(
     if report.ended == Ended::OutOfMemory {
         return Err(AllocError);
     }
-    receipts.extend(report.receipts)?;
-    Ok(())
+    put_behind(receipts, report.receipts)
 }
 
 // Does what a line says before the workers start, if it is the node's, and keeps the receipts.

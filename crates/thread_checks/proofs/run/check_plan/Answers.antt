@@ -2,13 +2,13 @@ use Rattle.std.proofs.Common.{◌≡◌, ◌∙◌, ℕ, Result, ap, refl, rules
 use Rattle.std.specs.Prelude.{IfOk, string_bytes}
 use Rattle.thread_plans.specs.Plans.{PlanValue, plan_value}
 use Rattle.thread_scripts.specs.Outputs.{IsJudged}
-use Rattle.thread_checks.specs.Checked.{first_of, with_first}
+use Rattle.thread_checks.specs.Checked.{plan_with}
 use Rattle.thread_checks.proofs.run.check_plan.Goals as goal
 
 pub returns-clause-ok : goal.returns-clause-ok
 returns-clause-ok g c =
-    let same : plan_value c.with_first-plan.result ≡ with_first (plan_value c.args.plan) (first_of c.args.script.now) =
-    c.with_first-plan.ensures ∙ ap (with_first (plan_value c.args.plan)) c.in_ok-first.ensures in
+    let same : plan_value c.with_rounds-plan.result ≡ plan_with c.args.script.now (plan_value c.args.plan) =
+    search rules in
     record {
       plan = plan_value c.args.plan;
       vain = c.in_ok-vain.vain.items;
@@ -27,4 +27,4 @@ returns-clause-size g c =
     × (p.cap ≡ c.args.plan.size.trace_cap))) (sym c.requires.plan) (refl, refl)
 
 pub returns-clause-len : goal.returns-clause-len
-returns-clause-len g c = c.in_ok-played.ensures.len ∙ ap (λ p. p.nodes) c.with_first-plan.ensures
+returns-clause-len g c = c.in_ok-played.ensures.len ∙ ap (λ p. p.nodes) c.with_rounds-plan.ensures

@@ -1,6 +1,6 @@
 use Rattle.std.proofs.Common.{◌≡◌, ℕ, None, rules}
 use Rattle.thread_scripts.proofs.NodeLists.{of_both, of_workers}
-use Rattle.thread_scripts.proofs.Numbered.{IfOk-on}
+use Rattle.thread_scripts.proofs.Numbered.{IfOk-map, IfOk-on}
 use Rattle.thread_scripts.proofs.Seats.{before_last, the_last}
 use Rattle.thread_scripts.proofs.nodes.make_calls_beside.Goals as goal
 
@@ -30,10 +30,10 @@ pub returns-clause-calls : goal.returns-clause-calls
 returns-clause-calls g c =
     let both = c.in_ok-both.both in
     let gossip = c.in-Some.gossip in
-    rw c.in-Some.is (IfOk-on c.with_gossip.result _ _ _
-    (λ all is ended.
+    rw c.in-Some.is (IfOk-map c.with_gossip.result _ _
+    (λ all is.
     of_both g.L.Label.config g.L.Label.seed _ c.in_ok-jobs-2.jobs.items both.dones.items (gossip.wire, gossip.rounds)
-    both.gossiped.wire both.gossiped.report c.args.finished.lists.items c.in_ok-finished.finished.lists.items
+    both.gossiped.wire both.gossiped.receipts is.0 c.args.finished.lists.items c.in_ok-finished.finished.lists.items
     all.lists.items (rw c.deref-2.ensures.value at c.in_ok-jobs-2.ensures.asks) c.in_ok-both.ensures.made
-    c.in_ok-finished.ensures.memory c.in_ok-finished.ensures.lists is ended c.in_ok-both.ensures.gossiped)
-    c.with_gossip.ensures.lists c.with_gossip.ensures.ended)
+    c.in_ok-finished.ensures.memory c.in_ok-finished.ensures.lists is.1 is.2 c.in_ok-both.ensures.gossiped)
+    c.with_gossip.ensures.lists)
