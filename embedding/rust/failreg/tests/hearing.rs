@@ -132,7 +132,7 @@ fn telling(node: &Arc<Registry>, to: u8, addr: SocketAddr) -> Gossip {
 }
 
 #[test]
-fn nodes_without_news_hear_each_other_and_are_told_again() {
+fn nodes_without_news_hear_each_other() {
     let any = SocketAddr::from((Ipv4Addr::LOCALHOST, 0));
     let (first, at_first) = served(0, any, OnForgotten::Stop);
     let (second, at_second) = served(1, any, OnForgotten::Stop);
@@ -146,12 +146,13 @@ fn nodes_without_news_hear_each_other_and_are_told_again() {
     let is_told =
         || first.known(1) == Ok(1) && second.acked(0) == Ok(1) && first.acked(1) == first.version();
     assert!(comes(is_told));
-    // It is started again, and nobody has news for it.
+    // It is started again, and nobody has news for it: it asks.
     drop((back, second, at_second));
     let calls = Arc::new(AtomicU32::new(0));
     let its = calls.clone();
     let count = OnForgotten::call(move |_| _ = its.fetch_add(1, Ordering::SeqCst));
     let (again, _at_second) = served(1, to_second, count);
+    let _asking = telling(&again, 0, to_first);
     assert!(comes(|| calls.load(Ordering::SeqCst) > 0));
     let error = again.set("p", "off").unwrap_err();
     assert_eq!(error.kind(), ErrorKind::NotHeard);
