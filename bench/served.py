@@ -12,6 +12,7 @@ import contextlib
 import os
 import re
 import shutil
+import statistics
 import subprocess
 import sys
 import tempfile
@@ -103,26 +104,28 @@ def asked(server, clients, seconds):
     return Answers(float(a_second), half, most)
 
 
-def best(servers, clients, seconds):
-    """Of each server its best run."""
+def runs_of(servers, clients, seconds):
+    """Of each server its runs."""
     rounds = [[asked(server, clients, seconds) for server in servers] for _ in range(ROUNDS)]
-    return [max(runs, key=lambda run: run.a_second) for runs in zip(*rounds)]
+    return list(zip(*rounds))
 
 
 def print_table(servers, seconds):
     print(f"\n| Who is asked | {' | '.join(f'{clients} client{chr(115) * (clients > 1)}' for clients in CLIENTS)} |")
     print("|---" * (len(CLIENTS) + 1) + "|")
-    columns = [best(servers, clients, seconds) for clients in CLIENTS]
+    columns = [runs_of(servers, clients, seconds) for clients in CLIENTS]
     for server, row in zip(servers, zip(*columns)):
-        cells = (f"{answers.a_second:,.0f}; {answers.half} and {answers.most}" for answers in row)
+        best = [max(runs, key=lambda run: run.a_second) for runs in row]
+        cells = (f"{answers.a_second:,.0f}; {answers.half} and {answers.most}" for answers in best)
         print(f"| {server.title} | {' | '.join(cells)} |")
     return columns
 
 
 def print_key(without, with_key):
-    print("\nwith a key, of the requests a second without:", end="")
+    print("\nwith a key, of the requests a second without, by the medians:", end="")
     for clients, column in zip(CLIENTS, zip(without, with_key)):
-        print(f" {clients}: {column[1].a_second / column[0].a_second * 100:.1f}%", end="")
+        plain, keyed = (statistics.median(run.a_second for run in runs) for runs in column)
+        print(f" {clients}: {keyed / plain * 100:.1f}%", end="")
     print()
 
 
