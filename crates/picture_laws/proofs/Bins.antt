@@ -1,5 +1,5 @@
 -- The story behind so many columns of a picture is that of the calls which stand in them, one after the other.
-use Rattle.std.proofs.Common.{◌≡◌, ◌≢◌, ◌⊎◌, inl, inr, ℕ, zero, suc, ◌+◌, ◌/◌, ◌<◌, ◌≤◌, ◌==◌, cond, Bool, true, false, List, [], ◌∷◌, ◌++◌, length, map, filter, fold, nat_lt, refl, sym, ◌∙◌, ap, subst, arith, append_assoc, append-nil, le_trans, div-mul-le_self}
+use Rattle.std.proofs.Common.{◌≡◌, ◌≢◌, ◌⊎◌, inl, inr, ℕ, zero, suc, ◌/◌, ◌<◌, ◌≤◌, ◌==◌, cond, Bool, true, false, List, [], ◌∷◌, ◌++◌, length, map, filter, fold, nat_lt, refl, sym, ◌∙◌, ap, subst, arith, append_assoc, append-nil, le_trans, div-mul-le_self}
 use mathlib.Core.List.{reverse_aux}
 use Rattle.std.proofs.lemmas.Nat.{le-div}
 use Rattle.std.proofs.lemmas.Bool.Decides.{leb_tells, eqb_tells}

@@ -46,7 +46,8 @@ use Rattle.picture_laws.proofs.Chains.{between, amounts_by, chain_sum}
 use Rattle.picture_laws.proofs.Knows.{HasRoom}
 use Rattle.picture_laws.proofs.Columns.{call_is_entry, placed}
 use Rattle.picture_laws.proofs.Balanced.{rights_at, held_at}
-use Rattle.picture_laws.proofs.Told.{yet, Tells, IsAnswered, first_tells, fits_then, call_tells}
+use Rattle.picture_laws.proofs.Tells.{yet, Tells, first_tells}
+use Rattle.picture_laws.proofs.Told.{IsAnswered, fits_then, call_tells}
 use Rattle.picture_laws.proofs.Bins.{is_before, first_run, story_is, story_of, story_placed}
 
 -- ---- a schedule

@@ -6,6 +6,9 @@ pub mod Seen
 pub mod Brought
 pub mod Balanced
 pub mod Parcels
+pub mod Calls
+pub mod Tells
+pub mod Changes
 pub mod Told
 pub mod Bins
 pub mod Final

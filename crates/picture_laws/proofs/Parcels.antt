@@ -1,5 +1,5 @@
 -- The parcels of a chart beside the world, event by event.
-use Rattle.std.proofs.Common.{◌≡◌, ◌≢◌, ◌⊎◌, inl, inr, ℕ, ◌+◌, ◌-◌, ◌<◌, ◌≤◌, ◌==◌, ◌&&◌, max, cond, Bool, true, false, not, List, [], ◌∷◌, ◌++◌, filter, nat_le, refl, sym, ◌∙◌, ap, subst, arith, append-nil, ⊎_elim, Some}
+use Rattle.std.proofs.Common.{◌≡◌, ◌≢◌, ◌⊎◌, inl, inr, ℕ, ◌+◌, ◌<◌, ◌≤◌, ◌==◌, ◌&&◌, max, cond, Bool, true, false, not, List, [], ◌∷◌, ◌++◌, filter, nat_le, refl, sym, ◌∙◌, ap, subst, arith, append-nil, ⊎_elim, Some}
 use Rattle.std.proofs.lemmas.Bool.{eqb-true, eq-eqb, cases_eq, and_parts, and_from}
 use Rattle.counters.specs.Sums.{sum_below}
 use Rattle.counters.proofs.SumLemmas.{sum-same, sum-add}

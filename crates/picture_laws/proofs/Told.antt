@@ -1,21 +1,18 @@
 -- A chart's story beside the world, call by call.
-use Rattle.std.proofs.Common.{◌≡◌, ◌≢◌, ◌⊎◌, inl, inr, ℕ, zero, suc, ◌+◌, ◌-◌, ◌<◌, ◌≤◌, ◌==◌, ◌&&◌, min, cond, Bool, true, false, not, List, [], ◌∷◌, ◌++◌, length, filter, fold, nat_le, nat_lt, replicate, slice_get, slice_index, slice_set, refl, sym, ◌∙◌, ap, subst, arith, ⊎_elim, Option, Some, None, Result, Ok, Err}
+use Rattle.std.proofs.Common.{◌≡◌, ◌≢◌, ◌⊎◌, inl, inr, ℕ, ◌+◌, ◌<◌, ◌≤◌, ◌==◌, ◌&&◌, min, cond, Bool, true, false, not, List, [], ◌∷◌, ◌++◌, length, filter, fold, nat_le, nat_lt, slice_get, slice_index, slice_set, refl, sym, ◌∙◌, ap, subst, arith, ⊎_elim, Some, None}
 use Rattle.std.proofs.lemmas.Bool.{true≢false, eqb-true, eqb-false, eq-eqb, cases_eq, and_parts, and_from, and_left, and_right, le-leb, lt-ltb}
 use Rattle.std.proofs.lemmas.Bool.Decides.{leb_tells, eqb_tells}
-use Rattle.std.proofs.lemmas.List.{length-set, length-replicate}
-use Rattle.std.specs.List.{flat_map}
+use Rattle.std.proofs.lemmas.List.{length-set}
 use Rattle.std.specs.Str.{bytes_eq}
 use Rattle.counters.specs.Sums.{node_numbers, sum_below}
-use Rattle.counters.proofs.SumLemmas.{sum-same, sum-add, sum-at, sum-zero, sum-le}
+use Rattle.counters.proofs.SumLemmas.{sum-same, sum-zero, sum-le}
 use Rattle.stamp_register.specs.Keys.{KeyValue, stamp_of}
 use Rattle.operations.specs.Operations.{Shifts, Operation, Set, Count, IsIn, count_of}
 use Rattle.operations.proofs.Members.{IsIn-append_cases}
-use Rattle.message_format.specs.declared.fault.WireFault.{WireFault}
-use Rattle.message_format.specs.Messages.{EntryValue, MessageValue, operations_of}
-use Rattle.message_format.specs.Reading.{message_at}
+use Rattle.message_format.specs.Messages.{EntryValue, operations_of}
 use Rattle.message_format.proofs.Members.{flat_in}
 use Rattle.replica_state.specs.States.{State}
-use Rattle.replica_state.specs.Folds.{fold as fold_ops, number_at, clock_of}
+use Rattle.replica_state.specs.Folds.{number_at, clock_of}
 use Rattle.replica_state.proofs.Orders.{bytes_eq-true, bytes_eq-refl}
 use Rattle.replica_state.proofs.KnownSets.{own_name}
 use Rattle.node_calls.specs.Told.{Told, AskTold, ReplyTold, Passed}
@@ -23,16 +20,16 @@ use Rattle.node_calls.specs.Told as tells
 use Rattle.node_calls.specs.Asks.{Asked, Message, read_of, message_read, emit_of, emit_asked_by, asked_from, answered_from}
 use Rattle.node_calls.specs.Asks as asks
 use Rattle.node_steps.specs.Nodes.{Node, state_shown, setting_of}
-use Rattle.node_steps.specs.Settings.{settings, operations_issued}
+use Rattle.node_steps.specs.Settings.{settings}
 use Rattle.node_steps.specs.Refusals.{message_in, refusal_at, faults_of, faults_of_shift}
-use Rattle.node_core.specs.Steps.{after, reply, shift_under}
+use Rattle.node_core.specs.Steps.{after, reply}
 use Rattle.cluster_model.specs.Worlds.{Cluster, Event, config_of, accepted, node_after, world}
 use Rattle.cluster_model.specs.Schedules.{IsSchedule}
-use Rattle.cluster_model.specs.Histories.{state_of, ops_issued, ops_delivered, keys_by, is_act_of, acts, executions, is_key, is_under, amount_moved, moved, amount_granted, granted, seen, all_granted, all_executions}
+use Rattle.cluster_model.specs.Histories.{state_of, ops_issued, ops_delivered, keys_by, is_act_of, acts, is_key, is_under, amount_moved, moved, amount_granted, granted, all_granted}
 use Rattle.cluster_model.proofs.Steps.{asked_is, known, delivered_was_sent}
-use Rattle.cluster_model.proofs.Passes.{Outcome, NotSet, Nothing, Triggered, IsOutcome, HasOutcome, ops_of, passed_as, outcome_of, none_applies, not_true, IsShifted, shifted_is}
+use Rattle.cluster_model.proofs.Passes.{Outcome, NotSet, Nothing, Triggered, IsOutcome, HasOutcome, passed_as, outcome_of, none_applies, not_true, IsShifted, shifted_is}
 use Rattle.cluster_model.proofs.Stamps.{OneStamp, one_before, carried, under_issued, issued_past, clock_grows}
-use Rattle.cluster_model.proofs.OwnCells.{OneHere, same_call, acted, executed_more, one_here, own_shifts}
+use Rattle.cluster_model.proofs.OwnCells.{OneHere, same_call, acted, one_here, own_shifts}
 use Rattle.cluster_model.proofs.Rights.{is_key-of, is_key-some}
 use Rattle.drill_picture.specs.Stories.{KnownTold as Known}
 use Rattle.drill_picture.specs.Stories.{ParcelTold as Parcel}
@@ -40,161 +37,18 @@ use Rattle.drill_picture.specs.Budgets.{BudgetTold, is_of_budget}
 use Rattle.drill_picture.specs.Knowing.{told_by, entries_in, known_after, knows_nothing}
 use Rattle.drill_picture.specs.Knowing as knowing
 use Rattle.drill_picture.specs.Rights.{RowTold, after_arrival, after_grant, after_spend, after_send, is_brought}
-use Rattle.drill_picture.specs.Stories.{StoryTold, first_story, after_making, is_act, ran, after_message, left_by_message, row_after, parcels_after, sent_parcel, after_knowing, after_acting, story_by, story_from, after_call}
+use Rattle.drill_picture.specs.Stories.{StoryTold, after_making, ran, after_message, left_by_message, row_after, parcels_after, sent_parcel, after_knowing, after_acting, story_by, story_from, after_call}
 use Rattle.picture_laws.specs.Laws.{budget_of_key}
-use Rattle.picture_laws.proofs.Rows.{most, RowIs, row_same, make_is, grant_is, spend_is, send_is}
+use Rattle.picture_laws.proofs.Rows.{most, row_same, make_is, grant_is, spend_is, send_is}
 use Rattle.picture_laws.proofs.Chains.{amounts, amounts_to, amounts_to_append, amounts_parted, amounts_other, arrivals}
 use Rattle.picture_laws.proofs.Knows.{known_of, kept_key, HasRoom, knows_after, not_below, under_is}
 use Rattle.picture_laws.proofs.Brought.{AreOfKey, alike, brought_is}
-use Rattle.picture_laws.proofs.Balanced.{sum_only, not_asked, rights_at, adds_up, changes, not_changed}
-use Rattle.picture_laws.proofs.Parcels.{cases_to, same_row, HasParcels, nothing_sent, way_seen, moved_else, moved_here, seen_else, seen_same, seen_not_under, same_parcels, one_sent, some_arrive}
+use Rattle.picture_laws.proofs.Balanced.{not_asked, rights_at}
+use Rattle.picture_laws.proofs.Parcels.{cases_to, same_row, HasParcels, way_seen, moved_else, moved_here, seen_same, seen_not_under, same_parcels, one_sent, some_arrive}
 use Rattle.picture_laws.proofs.Seen.{own_number}
-
--- ---- lists
-
-get_set_same : (xs : List Known) (i : ℕ) (k : Known) → i < length xs → slice_get (slice_set xs i k) i ≡ Some k
-get_set_same [] i k low = absurd (omega (arith, low))
-get_set_same (x ∷ xs) zero k low = refl
-get_set_same (x ∷ xs) (suc i) k low = get_set_same xs i k (omega (arith, low))
-
-get_set_other : (xs : List Known) (i j : ℕ) (k : Known) → i ≢ j → slice_get (slice_set xs i k) j ≡ slice_get xs j
-get_set_other [] i j k ne = refl
-get_set_other (x ∷ xs) zero zero k ne = absurd (ne refl)
-get_set_other (x ∷ xs) zero (suc j) k ne = refl
-get_set_other (x ∷ xs) (suc i) zero k ne = refl
-get_set_other (x ∷ xs) (suc i) (suc j) k ne = get_set_other xs i j k (λ e. ne (ap suc e))
-
-get_replicate : (n i : ℕ) (k : Known) → i < n → slice_get (replicate n k) i ≡ Some k
-get_replicate zero i k low = absurd (omega (arith, low))
-get_replicate (suc n) zero k low = refl
-get_replicate (suc n) (suc i) k low = get_replicate n i k (omega (arith, low))
-
-index_replicate : (n i : ℕ) → slice_index (replicate n 0) i ≡ 0
-index_replicate zero i = refl
-index_replicate (suc n) zero = refl
-index_replicate (suc n) (suc i) = index_replicate n i
-
--- ---- tests
-
-moved_if : (a b d k : Bool) (amount : ℕ) →
-    ◌≡◌ {A = ℕ} (cond (a && (b && (d && k))) amount 0) (cond (a && (b && k)) (cond d amount 0) 0)
-moved_if true true true k amount = refl
-moved_if true true false true amount = refl
-moved_if true true false false amount = refl
-moved_if true false d k amount = refl
-moved_if false b d k amount = refl
-
-regroup : (a b d : Bool) → ((a && b) && d) ≡ (a && (b && d))
-regroup true b d = refl
-regroup false b d = refl
-
-turned : (i j : ℕ) → (i == j) ≡ (j == i)
-turned i j = alike _ _ (λ h. eq-eqb j i (sym (eqb-true i j h))) (λ h. eq-eqb i j (sym (eqb-true j i h)))
-
-sum_there : (n to amount : ℕ) → to < n → sum_below n (λ j. cond (to == j) amount 0) ≡ amount
-sum_there n to amount low =
-    sum-same n _ (λ j. cond (j == to) amount 0) (λ j l. ap (λ t. cond t amount 0) (turned to j)) ∙ sum-at n to amount low
-
-cond_zero : (t : Bool) (a : ℕ) → a ≡ 0 → ◌≡◌ {A = ℕ} (cond t a 0) 0
-cond_zero true a e = e
-cond_zero false a e = refl
-
--- ---- operations that are no shifts
-
-no_count : (i clock : ℕ) (all : List (List ℕ × Option (List ℕ))) (op : Operation) → IsIn op (operations_issued i clock all) →
-    (name : List ℕ) (key : KeyValue) (term from to number : ℕ) → op ≡ Count (Shifts name key term from to) number → ⊥
-no_count i clock [] op h name key term from to number is = h
-no_count i clock (setting ∷ rest) op (inl e) name key term from to number is = absurd (cc)
-no_count i clock (setting ∷ rest) op (inr h) name key term from to number is =
-    no_count i (clock + 1) rest op h name key term from to number is
-
-no_shift_passed : (i : ℕ) (v : State) (other : List ℕ) (o : Outcome) (op : Operation) → IsIn op (ops_of i v other o) →
-    (name : List ℕ) (key : KeyValue) (term from to number : ℕ) → op ≡ Count (Shifts name key term from to) number → ⊥
-no_shift_passed i v other NotSet op h name key term from to number is = h
-no_shift_passed i v other (Nothing k) op (inl e) name key term from to number is = absurd (cc)
-no_shift_passed i v other (Nothing k) op (inr h) name key term from to number is = h
-no_shift_passed i v other (Triggered k t None task) op (inl e) name key term from to number is = absurd (cc)
-no_shift_passed i v other (Triggered k t None task) op (inr h) name key term from to number is = h
-no_shift_passed i v other (Triggered k t (Some n) task) op (inl e) name key term from to number is = absurd (cc)
-no_shift_passed i v other (Triggered k t (Some n) task) op (inr (inl e)) name key term from to number is = absurd (cc)
-no_shift_passed i v other (Triggered k t (Some n) task) op (inr (inr h)) name key term from to number is = h
-
--- a shift that is issued is of the node's key of the name
-record IsShift (v : State) (other name : List ℕ) (key : KeyValue) (t term i to j amount number : ℕ) : Type 0 where
-  pub names : name ≡ other
-  pub under : v.key other ≡ Some key
-  pub terms : term ≡ t
-  pub tos : j ≡ to
-  pub numbers : number ≡ v.shifts other t i to + amount
-
-shift_issued : (i : ℕ) (v : State) (other : List ℕ) (t to amount : ℕ) (k : Option KeyValue) → v.key other ≡ k →
-    (name : List ℕ) (key : KeyValue) (term j number : ℕ) →
-    IsIn (Count (Shifts name key term i j) number) (shift_under i v other t to amount k) →
-    IsShift v other name key t term i to j amount number
-shift_issued i v other t to amount None u name key term j number h = absurd h
-shift_issued i v other t to amount (Some k) u name key term j number (inr h) = absurd h
-shift_issued i v other t to amount (Some k) u name key term j number (inl e) =
-    let keys : k ≡ key = cc in
-    record {
-      names = cc;
-      under = u ∙ ap Some keys;
-      terms = cc;
-      tos = cc;
-      numbers = cc;
-    }
-
--- ---- what a message tells
-
-told_ops : (r : Result MessageValue WireFault) → (message_in (read_of r)).ops ≡ flat_map operations_of (told_by r)
-told_ops (Ok m) = refl
-told_ops (Err fault) = refl
-
-message_ops : (nodes : ℕ) (bytes : List ℕ) → (message_in (message_read nodes bytes)).ops ≡ flat_map operations_of
-    (entries_in nodes bytes)
-unfolding message_read entries_in
-message_ops nodes bytes = told_ops (message_at nodes bytes)
-
--- ---- an emit
-
-record IsEmit (q : Asked) : Type 0 where
-  pub to : ℕ
-  pub versions : asks.Versions
-  pub chosen : List Operation
-  pub is : q ≡ asks.Emit to versions chosen
-
-emit_is : (to : ℕ) (r : Result Message WireFault) → IsEmit (emit_of to r)
-emit_is to (Ok m) = record { to = to; versions = _; chosen = m.ops; is = refl }
-emit_is to (Err fault) = record { to = to; versions = _; chosen = []; is = refl }
-
-emit_by : (nodes to : ℕ) (r : ReplyTold) → IsEmit (emit_asked_by nodes to r)
-emit_by nodes to (tells.was_emitted bytes) = emit_is to (message_read nodes bytes)
-emit_by nodes to (tells.was_set stamp) = record { to = to; versions = _; chosen = []; is = refl }
-emit_by nodes to (tells.was_removed stamp) = record { to = to; versions = _; chosen = []; is = refl }
-emit_by nodes to (tells.was_loaded entries) = record { to = to; versions = _; chosen = []; is = refl }
-emit_by nodes to (tells.was_passed passed) = record { to = to; versions = _; chosen = []; is = refl }
-emit_by nodes to (tells.was_shifted total) = record { to = to; versions = _; chosen = []; is = refl }
-emit_by nodes to (tells.was_granted total) = record { to = to; versions = _; chosen = []; is = refl }
-emit_by nodes to (tells.was_delivered changed) = record { to = to; versions = _; chosen = []; is = refl }
-
--- ---- a pass that ran the term
-
-module _ (name : List ℕ) (key : KeyValue) (term count : ℕ) where
-  ran_passed : (nodes : ℕ) (p : Passed) → is_act (budget_of_key name key term count) p ≡ acts (stamp_of key) term
-      (asks.IsPassed p)
-  ran_passed nodes tells.Unset = refl
-  ran_passed nodes (tells.NoTerm stamp) = refl
-  ran_passed nodes (tells.Act stamp t task) = regroup (stamp.clock == key.clock) (stamp.node == key.node) (t == term)
-
-  ran_is : (nodes : ℕ) (r : ReplyTold) → ran (budget_of_key name key term count) r ≡ acts (stamp_of key) term
-      (answered_from nodes r)
-  ran_is nodes (tells.was_passed p) = ran_passed nodes p
-  ran_is nodes (tells.was_set stamp) = refl
-  ran_is nodes (tells.was_removed stamp) = refl
-  ran_is nodes (tells.was_loaded entries) = refl
-  ran_is nodes (tells.was_shifted total) = refl
-  ran_is nodes (tells.was_granted total) = refl
-  ran_is nodes (tells.was_emitted bytes) = refl
-  ran_is nodes (tells.was_delivered changed) = refl
+use Rattle.picture_laws.proofs.Calls.{get_set_same, get_set_other, moved_if, turned, sum_there, cond_zero, no_count, no_shift_passed, IsShift, shift_issued, message_ops, emit_by, ran_is}
+use Rattle.picture_laws.proofs.Changes.{Stays, granted_more, spent_more, rights_else, rights_here, rights_still, by_node}
+use Rattle.picture_laws.proofs.Tells as story
 
 -- ---- the whole of it
 
@@ -203,60 +57,14 @@ module _ (c : Cluster) (few : c.nodes ≤ node_numbers) (name : List ℕ) (key :
   abbrev b : BudgetTold
   b = budget_of_key name key term count
 
-  -- what is yet to be counted
-  abbrev pub yet : List Event → ℕ
-  yet es = cond (nat_le key.clock ((world c es).node key.node).marks.clock) 0 count
+  abbrev yet : List Event → ℕ
+  yet es = story.yet c few name key term count counted es
 
-  abbrev pub HasRow : (es : List Event) (s : IsSchedule c es) → OneStamp c es name key → ℕ → List Parcel → RowTold → Type 0
-  HasRow es s one left parcels row =
-      RowIs c.nodes key.node left (count + all_granted c es name key term) (all_executions c es (stamp_of key) term)
-      (λ i. rights_at c few name key term count counted es s one i) (λ j. amounts_to j parcels) row
+  abbrev HasRow : (es : List Event) (s : IsSchedule c es) → OneStamp c es name key → ℕ → List Parcel → RowTold → Type 0
+  HasRow es s one left parcels row = story.HasRow c few name key term count counted es s one left parcels row
 
-  -- the story tells of this world
-  pub record Tells (es : List Event) (s : IsSchedule c es) (one : OneStamp c es name key) (t : StoryTold) : Type 0 where
-    pub long : length t.known ≡ c.nodes
-    pub knows : (i : ℕ) → i < c.nodes → slice_get t.known i ≡ Some (known_of name ((world c es).node i))
-    pub rights : HasRow es s one (yet es) t.parcels t.row
-    pub parcels : HasParcels c name key term es t.parcels
-
-  -- ---- before the first call
-
-  made_later : 1 ≤ key.clock → yet [] ≡ count
-  made_later some = elim (leb_tells key.clock 0) [
-    | inl w ↦ (let none = w.1 in absurd (omega (arith, none, some)))
-    | inr w ↦ ap (λ t. cond t 0 count) w.0
-  ]
-
-  pub first_tells : 1 ≤ key.clock → (s : IsSchedule c []) (one : OneStamp c [] name key) →
-      Tells [] s one (first_story c.nodes)
-  unfolding fold_ops
-  first_tells some s one = record {
-    long = length-replicate _ _;
-    knows = λ i low. get_replicate c.nodes i knows_nothing low;
-    rights = record {
-      held_long = length-replicate _ _;
-      way_long = length-replicate _ _;
-      whole_is =
-          let none = sum-zero c.nodes (λ i. 0) (λ i. refl) in
-          let all = made_later some in
-          omega (arith, none, all);
-      spent_is = sym (sum-zero c.nodes (λ i. 0) (λ i. refl));
-      held_is = λ i low.
-          let none = index_replicate c.nodes i in
-          let all : ◌≡◌ {A = ℕ} (cond (i == key.node) (yet []) 0) (cond (i == key.node) count 0) =
-          ap (λ k. cond (i == key.node) k 0) (made_later some) in
-          let up = adds_up c few name key term count counted [] s one i in
-          let out = sum-zero c.nodes (λ j. 0) (λ j. refl) in
-          let in_ = sum-zero c.nodes (λ j. seen c [] name key term j i) (λ j. nothing_seen (j == i)) in
-          omega (arith, none, all, up, out, in_);
-      way_is = λ j low. index_replicate c.nodes j;
-    };
-    parcels = nothing_sent c name key term;
-  }
-    where
-      nothing_seen : (t : Bool) → ◌≡◌ {A = ℕ} (cond t 0 0) 0
-      nothing_seen true = refl
-      nothing_seen false = refl
+  abbrev Tells : (es : List Event) (s : IsSchedule c es) → OneStamp c es name key → StoryTold → Type 0
+  Tells es s one t = story.Tells c few name key term count counted es s one t
 
   -- ---- a call
 
@@ -363,86 +171,6 @@ module _ (c : Cluster) (few : c.nodes ≤ node_numbers) (name : List ℕ) (key :
           ])
         ]
 
-    -- ---- sums over the nodes
-
-    granted_more : (q : Asked) → accepted c (world c es) e e.node ≡ Some q → e.node < c.nodes →
-        all_granted c (e ∷ es) name key term ≡ all_granted c es name key term + amount_granted n (Some q) name key term
-    granted_more q accepts low =
-        let all = sum-add c.nodes (λ j. amount_granted ((world c es).node j) (accepted c (world c es) e j) name key term)
-        (granted c es name key term) in
-        let one_node = sum_only c.nodes e.node
-        (λ j. amount_granted ((world c es).node j) (accepted c (world c es) e j) name key term) low
-        (λ j ne. ap (λ a. amount_granted ((world c es).node j) a name key term) (not_asked c (world c es) e j ne)) in
-        let here : amount_granted n (accepted c (world c es) e e.node) name key term ≡ amount_granted n (Some q) name key term =
-        ap (λ a. amount_granted n a name key term) accepts in
-        omega (arith, all, one_node, here)
-
-    spent_more : (q : Asked) → accepted c (world c es) e e.node ≡ Some q → e.node < c.nodes →
-        all_executions c (e ∷ es) (stamp_of key) term ≡ all_executions c es (stamp_of key) term
-        + acted (stamp_of key) term e.node n (Some q) e.words
-    spent_more q accepts low =
-        let each : all_executions c (e ∷ es) (stamp_of key) term ≡ sum_below c.nodes
-        (λ j. acted (stamp_of key) term j ((world c es).node j) (accepted c (world c es) e j) e.words
-        + executions c es (stamp_of key) term j) =
-        sum-same c.nodes _ _ (λ j l. executed_more (stamp_of key) term j ((world c es).node j) ((world c es).trace j)
-        (accepted c (world c es) e j) e.words) in
-        let all = sum-add c.nodes (λ j. acted (stamp_of key) term j ((world c es).node j) (accepted c (world c es) e j) e.words)
-        (executions c es (stamp_of key) term) in
-        let one_node = sum_only c.nodes e.node
-        (λ j. acted (stamp_of key) term j ((world c es).node j) (accepted c (world c es) e j) e.words) low
-        (λ j ne. ap (λ a. acted (stamp_of key) term j ((world c es).node j) a e.words) (not_asked c (world c es) e j ne)) in
-        let here : acted (stamp_of key) term e.node n (accepted c (world c es) e e.node) e.words ≡ acted (stamp_of key) term
-        e.node n (Some q) e.words = ap (λ a. acted (stamp_of key) term e.node n a e.words) accepts in
-        omega (arith, each, all, one_node, here)
-
-    -- the rights of the others stay
-    rights_else : (q : Asked) → accepted c (world c es) e e.node ≡ Some q → (j : ℕ) → j ≢ e.node → rights_now j ≡ rights_then j
-    rights_else q accepts j ne = not_changed c few name key term count counted e es s one one_then j
-        (not_asked c (world c es) e j ne) (λ k. seen_else c name key term e es s q accepts k j ne)
-
-    -- and those of the node that is asked change by what it did
-    rights_here : (q : Asked) → accepted c (world c es) e e.node ≡ Some q →
-        rights_now e.node + (sum_below c.nodes (λ j. amount_moved n (Some q) name key term j)
-        + acted (stamp_of key) term e.node n (Some q) e.words) + sum_below c.nodes (λ j. seen c es name key term j e.node)
-        ≡ rights_then e.node + amount_granted n (Some q) name key term
-        + sum_below c.nodes (λ j. seen c (e ∷ es) name key term j e.node)
-    rights_here q accepts = subst (λ a.
-        rights_now e.node + (sum_below c.nodes (λ j. amount_moved n a name key term j)
-        + acted (stamp_of key) term e.node n a e.words) + sum_below c.nodes (λ j. seen c es name key term j e.node)
-        ≡ rights_then e.node + amount_granted n a name key term
-        + sum_below c.nodes (λ j. seen c (e ∷ es) name key term j e.node)) accepts
-        (changes c few name key term count counted e es s one one_then e.node)
-
-    -- where nothing is delivered
-    abbrev Stays : Type 0
-    Stays = (j k : ℕ) → seen c (e ∷ es) name key term j k ≡ seen c es name key term j k
-
-    rights_still : (q : Asked) → accepted c (world c es) e e.node ≡ Some q → Stays →
-        rights_now e.node + (sum_below c.nodes (λ j. amount_moved n (Some q) name key term j)
-        + acted (stamp_of key) term e.node n (Some q) e.words)
-        ≡ rights_then e.node + amount_granted n (Some q) name key term
-    rights_still q accepts stays =
-        let all = rights_here q accepts in
-        let same : sum_below c.nodes (λ j. seen c (e ∷ es) name key term j e.node) ≡ sum_below c.nodes
-        (λ j. seen c es name key term j e.node) =
-        sum-same c.nodes _ _ (λ j l. stays j e.node) in
-        omega (arith, all, same)
-
-    -- what is held with what is moved, by the node
-    by_node : (amount : ℕ) (f g : ℕ → ℕ) → ((j : ℕ) → j ≢ e.node → f j ≡ g j) → f e.node + amount ≡ g e.node → (j : ℕ) →
-        f j + cond (j == e.node) amount 0 ≡ g j
-    by_node amount f g else_ here j = elim (eqb_tells j e.node) [
-      | inl w ↦
-          let a : f j ≡ f e.node = ap f w.1 in
-          let d : g j ≡ g e.node = ap g w.1 in
-          let t : ◌≡◌ {A = ℕ} (cond (j == e.node) amount 0) amount = ap (λ t. cond t amount 0) w.0 in
-          omega (arith, a, d, t, here)
-      | inr w ↦
-          let a = else_ j w.1 in
-          let t : ◌≡◌ {A = ℕ} (cond (j == e.node) amount 0) 0 = ap (λ t. cond t amount 0) w.0 in
-          omega (arith, a, t)
-    ]
-
     -- what the node holds by the chart is what it holds
     held_then : (row : RowTold) (parcels : List Parcel) → e.node < c.nodes → under ≡ true →
         HasRow es s.1 one_then (yet (e ∷ es)) parcels row → slice_index row.held e.node ≡ rights_then e.node
@@ -460,7 +188,7 @@ module _ (c : Cluster) (few : c.nodes ≤ node_numbers) (name : List ℕ) (key :
 
     -- an ask that neither moves nor runs nor grants nor brings anything
     record IsQuiet (q : Asked) : Type 0 where
-      pub stays : Stays
+      pub stays : Stays c few name key term count counted e es s one
       pub moves : (j : ℕ) → amount_moved n (Some q) name key term j ≡ 0
       pub grants : amount_granted n (Some q) name key term ≡ 0
       pub spends : acted (stamp_of key) term e.node n (Some q) e.words ≡ 0
@@ -474,18 +202,18 @@ module _ (c : Cluster) (few : c.nodes ≤ node_numbers) (name : List ℕ) (key :
         (parcels : List Parcel) → HasRow es s.1 one_then (yet (e ∷ es)) parcels row →
         HasRow (e ∷ es) s one (yet (e ∷ es)) parcels row
     quiet_row q accepts low quiet row parcels has =
-        let grown = granted_more q accepts low in
-        let spent = spent_more q accepts low in
+        let grown = granted_more c few name key term count counted e es s one q accepts low in
+        let spent = spent_more c few name key term count counted e es s one q accepts low in
         let gr = quiet.grants in
         let sp = quiet.spends in
         let moved_none : sum_below c.nodes (λ j. amount_moved n (Some q) name key term j) ≡ 0 =
         sum-zero c.nodes _ quiet.moves in
-        let here = rights_still q accepts quiet.stays in
+        let here = rights_still c few name key term count counted e es s one q accepts quiet.stays in
         row_same c.nodes key.node (yet (e ∷ es)) _ _ _ _ rights_then (λ j. amounts_to j parcels) rights_now
         (λ j. amounts_to j parcels) row has (omega (arith, grown, gr)) (omega (arith, spent, sp))
         (λ j l. ⊎_elim
         (λ same. same_number rights_then rights_now j e.node same (omega (arith, here, moved_none, sp, gr)))
-        (λ ne. sym (rights_else q accepts j ne)) (cases_eq j e.node))
+        (λ ne. sym (rights_else c few name key term count counted e es s one q accepts j ne)) (cases_eq j e.node))
         (λ j l. refl)
 
     quiet_both : (q : Asked) → accepted c (world c es) e e.node ≡ Some q → e.node < c.nodes → IsQuiet q → (row : RowTold)
@@ -570,7 +298,7 @@ module _ (c : Cluster) (few : c.nodes ≤ node_numbers) (name : List ℕ) (key :
         HasParcels c name key term es parcels → HasBoth (cond (ran b r) (after_spend e.node row) row) parcels
     passed_both other r accepts rep low row parcels has parts = at (ran b r) refl
       where
-        stay : Stays
+        stay : Stays c few name key term count counted e es s one
         stay = seen_same c name key term e es s (asks.Pass other) accepts refl
 
         test : ran b r ≡ acts (stamp_of key) term (reply e.node n (asks.Pass other) e.words)
@@ -605,18 +333,18 @@ module _ (c : Cluster) (few : c.nodes ≤ node_numbers) (name : List ℕ) (key :
 
             spent : HasRow (e ∷ es) s one (yet (e ∷ es)) parcels (after_spend e.node row)
             spent =
-                let here = rights_still (asks.Pass other) accepts stay in
+                let here = rights_still c few name key term count counted e es s one (asks.Pass other) accepts stay in
                 let moved_none : sum_below c.nodes (λ j. 0) ≡ 0 = sum-zero c.nodes (λ j. 0) (λ j. refl) in
                 let ones = acts_one in
                 let change : rights_now e.node + 1 ≡ rights_then e.node = omega (arith, here, moved_none, ones) in
                 let held = held_then row parcels low under_it has in
-                let grown = granted_more (asks.Pass other) accepts low in
-                let more = spent_more (asks.Pass other) accepts low in
+                let grown = granted_more c few name key term count counted e es s one (asks.Pass other) accepts low in
+                let more = spent_more c few name key term count counted e es s one (asks.Pass other) accepts low in
                 row_same c.nodes key.node (yet (e ∷ es)) _ _ _ _ rights_now (λ j. amounts_to j parcels) rights_now
                 (λ j. amounts_to j parcels) (after_spend e.node row)
                 (spend_is c.nodes key.node (yet (e ∷ es)) _ _ e.node rights_then (λ j. amounts_to j parcels) rights_now row
                 low (omega (arith, held, change))
-                (λ j l. by_node 1 rights_now rights_then (rights_else (asks.Pass other) accepts) change j) has)
+                (λ j l. by_node c few name key term count counted e es s one 1 rights_now rights_then (rights_else c few name key term count counted e es s one (asks.Pass other) accepts) change j) has)
                 (omega (arith, grown)) (omega (arith, more, ones)) (λ j l. refl) (λ j l. refl)
 
     -- ---- a grant
@@ -628,7 +356,7 @@ module _ (c : Cluster) (few : c.nodes ≤ node_numbers) (name : List ℕ) (key :
         HasBoth (cond (under && is_of_budget b other t) (after_grant e.node amount row) row) parcels
     granted_both other t amount accepts low fits row parcels has parts = at (under && is_of_budget b other t) refl
       where
-        stay : Stays
+        stay : Stays c few name key term count counted e es s one
         stay = seen_same c name key term e es s (asks.Grant other t amount) accepts refl
 
         kept : under ≡ is_key key ((state_shown n).key name)
@@ -660,19 +388,19 @@ module _ (c : Cluster) (few : c.nodes ≤ node_numbers) (name : List ℕ) (key :
 
             more : HasRow (e ∷ es) s one (yet (e ∷ es)) parcels (after_grant e.node amount row)
             more =
-                let here = rights_still (asks.Grant other t amount) accepts stay in
+                let here = rights_still c few name key term count counted e es s one (asks.Grant other t amount) accepts stay in
                 let moved_none : sum_below c.nodes (λ j. 0) ≡ 0 = sum-zero c.nodes (λ j. 0) (λ j. refl) in
                 let gr = grants_it in
                 let change : rights_then e.node + amount ≡ rights_now e.node = omega (arith, here, moved_none, gr) in
-                let grown = granted_more (asks.Grant other t amount) accepts low in
-                let spent = spent_more (asks.Grant other t amount) accepts low in
+                let grown = granted_more c few name key term count counted e es s one (asks.Grant other t amount) accepts low in
+                let spent = spent_more c few name key term count counted e es s one (asks.Grant other t amount) accepts low in
                 row_same c.nodes key.node (yet (e ∷ es)) _ _ _ _ (λ j. rights_then j + cond (j == e.node) amount 0)
                 (λ j. amounts_to j parcels) rights_now (λ j. amounts_to j parcels) (after_grant e.node amount row)
                 (grant_is c.nodes key.node (yet (e ∷ es)) _ _ e.node amount rights_then (λ j. amounts_to j parcels) row
                 low (omega (arith, fits, grown, gr)) has)
                 (omega (arith, grown, gr)) (omega (arith, spent))
-                (λ j l. by_node amount rights_then rights_now
-                (λ k ne. sym (rights_else (asks.Grant other t amount) accepts k ne)) change j)
+                (λ j l. by_node c few name key term count counted e es s one amount rights_then rights_now
+                (λ k ne. sym (rights_else c few name key term count counted e es s one (asks.Grant other t amount) accepts k ne)) change j)
                 (λ j l. refl)
 
     -- ---- a shift
@@ -690,7 +418,7 @@ module _ (c : Cluster) (few : c.nodes ≤ node_numbers) (name : List ℕ) (key :
         v : State
         v = state_shown n
 
-        stay : Stays
+        stay : Stays c few name key term count counted e es s one
         stay = seen_same c name key term e es s (asks.Shift other t to amount) accepts refl
 
         kept : under ≡ is_key key (v.key name)
@@ -779,7 +507,7 @@ module _ (c : Cluster) (few : c.nodes ≤ node_numbers) (name : List ℕ) (key :
 
             change : rights_now e.node + amount ≡ rights_then e.node
             change =
-                let here = rights_still (asks.Shift other t to amount) accepts stay in
+                let here = rights_still c few name key term count counted e es s one (asks.Shift other t to amount) accepts stay in
                 let all = sent in
                 omega (arith, here, all)
 
@@ -812,14 +540,14 @@ module _ (c : Cluster) (few : c.nodes ≤ node_numbers) (name : List ℕ) (key :
 
             sent_row : HasRow (e ∷ es) s one (yet (e ∷ es)) (parcels ++ p ∷ []) (after_send e.node to amount row)
             sent_row =
-                let grown = granted_more (asks.Shift other t to amount) accepts low in
-                let spent = spent_more (asks.Shift other t to amount) accepts low in
+                let grown = granted_more c few name key term count counted e es s one (asks.Shift other t to amount) accepts low in
+                let spent = spent_more c few name key term count counted e es s one (asks.Shift other t to amount) accepts low in
                 row_same c.nodes key.node (yet (e ∷ es)) _ _ _ _ rights_now
                 (λ j. amounts_to j parcels + cond (j == to) amount 0) rights_now (λ j. amounts_to j (parcels ++ p ∷ []))
                 (after_send e.node to amount row)
                 (send_is c.nodes key.node (yet (e ∷ es)) _ _ e.node to amount rights_then (λ j. amounts_to j parcels)
                 rights_now row low is.below enough
-                (λ j l. by_node amount rights_now rights_then (rights_else (asks.Shift other t to amount) accepts) change j) has)
+                (λ j l. by_node c few name key term count counted e es s one amount rights_now rights_then (rights_else c few name key term count counted e es s one (asks.Shift other t to amount) accepts) change j) has)
                 (omega (arith, grown)) (omega (arith, spent)) (λ j l. refl)
                 (λ j l.
                 let all = amounts_to_append j parcels (p ∷ []) in
@@ -914,7 +642,7 @@ module _ (c : Cluster) (few : c.nodes ≤ node_numbers) (name : List ℕ) (key :
 
             change : rights_then e.node + amounts came ≡ rights_now e.node
             change =
-                let here = rights_here (asks.Deliver (message_read c.nodes bytes)) accepts in
+                let here = rights_here c few name key term count counted e es s one (asks.Deliver (message_read c.nodes bytes)) accepts in
                 let none : sum_below c.nodes (λ j. 0) ≡ 0 = sum-zero c.nodes (λ j. 0) (λ j. refl) in
                 let before = way_seen c name key term es parcels parts e.node in
                 let now = way_seen c name key term (e ∷ es) left parts_now e.node in
@@ -924,19 +652,19 @@ module _ (c : Cluster) (few : c.nodes ≤ node_numbers) (name : List ℕ) (key :
 
             arrived : HasRow (e ∷ es) s one (yet (e ∷ es)) left (fold (λ r p. after_arrival e.node r p.amount) row came)
             arrived =
-                let grown = granted_more (asks.Deliver (message_read c.nodes bytes)) accepts low in
-                let spent = spent_more (asks.Deliver (message_read c.nodes bytes)) accepts low in
+                let grown = granted_more c few name key term count counted e es s one (asks.Deliver (message_read c.nodes bytes)) accepts low in
+                let spent = spent_more c few name key term count counted e es s one (asks.Deliver (message_read c.nodes bytes)) accepts low in
                 let split = parted in
                 row_same c.nodes key.node (yet (e ∷ es)) _ _ _ _ (λ j. rights_then j + cond (j == e.node) (amounts came) 0)
                 (λ j. amounts_to j left) rights_now (λ j. amounts_to j left)
                 (fold (λ r p. after_arrival e.node r p.amount) row came)
                 (arrivals c.nodes key.node (yet (e ∷ es)) _ _ e.node rights_then (λ j. amounts_to j parcels)
                 (λ j. amounts_to j left) came row low
-                (λ j l. by_node (amounts came) (λ k. amounts_to k left) (λ k. amounts_to k parcels) other
+                (λ j l. by_node c few name key term count counted e es s one (amounts came) (λ k. amounts_to k left) (λ k. amounts_to k parcels) other
                 (omega (arith, split)) j) has)
                 (omega (arith, grown)) (omega (arith, spent))
-                (λ j l. by_node (amounts came) rights_then rights_now
-                (λ k ne. sym (rights_else (asks.Deliver (message_read c.nodes bytes)) accepts k ne)) change j)
+                (λ j l. by_node c few name key term count counted e es s one (amounts came) rights_then rights_now
+                (λ k ne. sym (rights_else c few name key term count counted e es s one (asks.Deliver (message_read c.nodes bytes)) accepts k ne)) change j)
                 (λ j l. refl)
 
     -- ---- any call
