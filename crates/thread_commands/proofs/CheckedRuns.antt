@@ -9,33 +9,36 @@ use Rattle.audit.specs.Traces.{Traces}
 use Rattle.streams.specs.declared.fault.ScriptFault.{ScriptFault}
 use Rattle.streams.specs.declared.fault.ScriptFault.TheVariants as faults
 use Rattle.thread_plans.specs.BadLines.{bad_text}
+use Rattle.thread_scripts.specs.Calls.{FaultList}
 use Rattle.thread_checks.specs.Checked.{ChecksSaying, IsChecked, plain_text}
 use Rattle.thread_commands.specs.Checked.{FailsSaying}
 use Rattle.commands.specs.Statuses.{OnStatus}
 use Rattle.thread_commands.proofs.Warned.{items_of}
 
 -- the script that was read is the input
-checked : (written told : List ℕ → Type 0) (script : List ℕ) (traces : Traces) (lists : Lists) (text said : List ℕ)
-    (input : Option (List ℕ)) → IfSome input (λ bytes. script ≡ bytes) → IsChecked script traces lists text said →
-    written text → told said → IfSome input (λ bytes. ChecksSaying bytes written told)
-checked written told script traces lists text said None same is h s = tt
-checked written told script traces lists text said (Some bytes) same is h s =
-    (traces, lists, text, said, subst (λ b. IsChecked b traces lists text said) same is, h, s)
+checked : (written told : List ℕ → Type 0) (script : List ℕ) (traces : Traces) (lists : Lists)
+    (refused : FaultList) (text said : List ℕ) (input : Option (List ℕ)) → IfSome input (λ bytes. script ≡ bytes) →
+    IsChecked script traces lists refused text said → written text → told said →
+    IfSome input (λ bytes. ChecksSaying bytes written told)
+checked written told script traces lists refused text said None same is h s = tt
+checked written told script traces lists refused text said (Some bytes) same is h s =
+    (traces, lists, refused, text, said, subst (λ b. IsChecked b traces lists refused text said) same is, h, s)
 
 pub checked_on_ok : {T E : Type 0} (written told : List ℕ → Type 0) (script : List ℕ) (traces : Traces) (lists : Lists)
-    (text said : List ℕ) (result : Result T E) (input : Option (List ℕ)) → IfSome input (λ bytes. script ≡ bytes) →
-    IsChecked script traces lists text said → OnOk result (written text) → OnOk result (told said) →
+    (refused : FaultList) (text said : List ℕ) (result : Result T E) (input : Option (List ℕ))
+    → IfSome input (λ bytes. script ≡ bytes) → IsChecked script traces lists refused text said →
+    OnOk result (written text) → OnOk result (told said) →
     OnOk result (IfSome input (λ bytes. ChecksSaying bytes written told))
-checked_on_ok written told script traces lists text said (Err fault) input same is h s = tt
-checked_on_ok written told script traces lists text said (Ok done) input same is h s =
-    checked written told script traces lists text said input same is h s
+checked_on_ok written told script traces lists refused text said (Err fault) input same is h s = tt
+checked_on_ok written told script traces lists refused text said (Ok done) input same is h s =
+    checked written told script traces lists refused text said input same is h s
 
 -- nothing was said
 silent : (input : Option (List ℕ)) (written : List ℕ → Type 0) (said : List ℕ) → said ≡ [] →
     IfSome input (λ bytes. ChecksSaying bytes written (λ failed. said ≡ failed)) →
     IfSome input (λ bytes. ChecksSaying bytes written (λ failed. failed ≡ []))
 silent None written said none h = tt
-silent (Some bytes) written said none h = (h.0, h.1, h.2, h.3, h.4, h.5, sym h.6 ∙ none)
+silent (Some bytes) written said none h = (h.0, h.1, h.2, h.3, h.4, h.5, h.6, sym h.7 ∙ none)
 
 pub silent_where_good : {T E F : Type 0} (result : Result ExitCode E) (run : Result T F) (written : List ℕ → Type 0)
     (said : List ℕ) (input : Option (List ℕ)) → OnStatus result 0 (IsOk run × (said ≡ [])) →

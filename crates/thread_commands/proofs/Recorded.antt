@@ -19,5 +19,5 @@ played Keeps contents old new script plan said (Err fault) input same planned h 
 played Keeps contents old new script plan said (Ok done) None same planned h = tt
 played Keeps contents old new script plan said (Ok done) (Some bytes) same planned h =
     let comes : ComesToSaying script h.text said =
-    (plan, h.traces, h.lists, h.explained, planned, h.legal, h.given, h.judged, h.warned) in
+    (plan, h.traces, h.lists, h.faults, h.explained, planned, h.legal, h.given, h.judged, h.warned) in
     (h.text, said, subst (λ b. ComesToSaying b h.text said) same comes, h.printed, refl)

@@ -10,6 +10,7 @@ use Rattle.streams.specs.Streams.{Writes}
 use Rattle.streams.specs.Watched.{has_unflushed}
 use Rattle.streams.specs.declared.watched.Watched.{Watched}
 use Rattle.thread_plans.specs.Plans.{PlanValue}
+use Rattle.thread_scripts.specs.Calls.{FaultList}
 use Rattle.thread_scripts.specs.Outputs.{IsJudged}
 use Rattle.thread_scripts.specs.Plays.{AreListsOf, AreTracesOf}
 use Rattle.thread_scripts.specs.Warnings.{warned_text}
@@ -20,12 +21,13 @@ pub record IsKept {O : Type 0} (Keeps : Traces → Lists → Type 0) (script : L
     (contents : O → Option (List ℕ)) (old new : Watched O) : Type 0 where
   pub traces : Traces
   pub lists : Lists
+  pub faults : FaultList
   pub text : List ℕ
   pub explained : Bool
   pub legal : AreTracesOf plan traces
-  pub given : AreListsOf plan lists
+  pub given : AreListsOf plan lists faults
   pub judged : IsJudged plan traces lists text explained
-  pub warned : said ≡ warned_text script plan lists explained
+  pub warned : said ≡ warned_text script plan lists faults explained
   pub kept : Keeps traces lists
   pub printed : Writes contents old new text
 

@@ -12,3 +12,5 @@ pub mod Shorts
 pub mod ShortStarts
 pub mod Started
 pub mod Counted
+pub mod FaultCodes
+pub mod Faults

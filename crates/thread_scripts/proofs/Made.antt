@@ -1,9 +1,10 @@
 -- What workers were to call, and what they handed back.
 use Rattle.std.proofs.Common.{◌≡◌, ◌≢◌, ◌∙◌, ℕ, ◌+◌, ◌<◌, ◌≤◌, Bool, true, false, ◌||◌, cond, true≢false, List, [], ◌∷◌, ◌++◌, length, map, ap, sym, refl, subst, inl, inr, arith, take, suc}
 use Rattle.std.specs.Prelude.{All, MatchBool, count_by, ◌==◌, slice_index_or}
-use Rattle.std.specs.List.{AllZip, filter, range_with_len, sum_by}
+use Rattle.std.specs.List.{AllZip, filter, flat_map, range_with_len, sum_by}
 use Rattle.std.proofs.Math.Seq.{take-suc}
 use Rattle.std.proofs.lemmas.List.{map-append, map_push, take-map}
+use Rattle.std.proofs.lemmas.List.Concat.{flat_map-cons}
 use Rattle.std.proofs.lemmas.List.Elements.{All-head, All-tail, filter-append}
 use Rattle.std.proofs.lemmas.List.Sums.{sum_by-take-le, sum_by_more}
 use Rattle.node_steps.specs.declared.config.Config.{Config}
@@ -20,8 +21,8 @@ use Rattle.node_registry.specs.declared.workers.Job.{Job}
 use Rattle.thread_plans.specs.declared.plan.Block.{Block}
 use Rattle.thread_plans.specs.Plans.{BlockValue, block_value}
 use Rattle.thread_scripts.specs.Asks.{asks_of_block}
-use Rattle.thread_scripts.specs.Calls.{AreMade, AreOfThread, HandsBack, is_memory, lack_memory, no_call, accepted, refused}
-use Rattle.thread_scripts.specs.Plays.{IsOfBlock}
+use Rattle.thread_scripts.specs.Calls.{AreMade, AreOfThread, HandsBack, faults_in, faults_of, faults_told, is_memory, lack_memory, no_call, accepted, refused}
+use Rattle.thread_scripts.specs.Plays.{IsOfBlock, Worked}
 
 both_false : (a b : Bool) → (a || b) ≡ false → (a ≡ false) × (b ≡ false)
 both_false true b is = absurd (true≢false is)
@@ -42,14 +43,26 @@ answered_made unclosed (workers.refused {ask = ask} {fault = fault} {faults = mo
     let both = both_false (is_memory fault) (lack_memory more) none in
     refused ask is (not_memory fault both.0) (answered_made unclosed rest both.1)
 
+-- its faults are those of what was refused
+faults_answered : {config : Config} {seed : List ℕ} {says : ℕ → Bool → Type 0} {hears : ℕ → Type 0} {n : ℕ}
+    {asks : List Ask} {receipts : List Receipt} {why : List (ℕ × NodeFault)} {refusals : List Refusal}
+    → AreAnswered config seed says hears n asks receipts why refusals → faults_in why ≡ faults_of refusals
+faults_answered workers.ended = refl
+faults_answered (workers.stopped closed) = refl
+faults_answered (workers.accepted may heard rest) = faults_answered rest
+faults_answered (workers.refused {fault = fault} may heard is rest) = ap (λ fs. fault ∷ fs) (faults_answered rest)
+
 handed_back : (config : Config) (seed : List ℕ) (says : ℕ → Bool → Type 0) (hears : ℕ → Type 0)
     → ((k : ℕ) → says k false → ⊥) → (asks : List Ask) (receipts : List Receipt) (why : List (ℕ × NodeFault))
     (refusals : List Refusal) (started : Bool)
     → MatchBool started (AreAnswered config seed says hears 0 asks receipts why refusals)
-    ((receipts ≡ []) × (why ≡ []) × (refusals ≡ [])) → lack_memory why ≡ false →
-    AreOfThread config seed (map ask_told asks) receipts refusals
-handed_back config seed says hears unclosed asks receipts why refusals true h none = inl (answered_made unclosed h none)
-handed_back config seed says hears unclosed asks receipts why refusals false h none = inr h.0
+    ((receipts ≡ []) × (why ≡ []) × (refusals ≡ []))
+    → (faults_in why ≡ faults_of refusals)
+    × (lack_memory why ≡ false → AreOfThread config seed (map ask_told asks) receipts refusals)
+handed_back config seed says hears unclosed asks receipts why refusals true h =
+    (faults_answered h, λ none. inl (answered_made unclosed h none))
+handed_back config seed says hears unclosed asks receipts why refusals false h =
+    (ap faults_in h.1 ∙ sym (ap faults_of h.2), λ none. inr (h.0, h.2))
 
 -- what workers hand back, behind such a gate
 pub each_made : {L : Type 0} (config : Config) (seed : List ℕ) (says : ℕ → ℕ → Bool → Type 0)
@@ -134,13 +147,39 @@ first_or d (x ∷ xs) = x
 nil_not_cons : {A : Type 0} {x : A} {xs : List A} → [] ≡ x ∷ xs → ⊥
 nil_not_cons {A = A} {x = x} {xs = xs} e = let n : 0 ≡ length (x ∷ xs) = ap length e in omega (arith, n)
 
--- the lists of workers whose jobs are those of blocks
+-- what a worker came to that handed this back
+abbrev pub worked_of : {L : Type 0} → Done L → Worked
+worked_of d = (d.receipts, d.refusals)
+
+-- the lists of workers
+pub lists_of_workers : {L : Type 0} (dones : List (Done L))
+    → map (λ (w : Worked). w.0) (map (λ (d : Done L). worked_of d) dones) ≡ map (λ (d : Done L). d.receipts) dones
+lists_of_workers [] = refl
+lists_of_workers (d ∷ ds) = ap (λ ls. d.receipts ∷ ls) (lists_of_workers ds)
+
+-- and why their calls were refused
+pub faults_of_workers : {L : Type 0} (config : Config) (seed : List ℕ) (jobs : List (Job L)) (dones : List (Done L))
+    → AllZip (λ (j : Job L) (d : Done L). HandsBack config seed (map ask_told j.asks.items) d) jobs dones
+    → flat_map (λ (d : Done L). faults_told d) dones
+    ≡ flat_map (λ (w : Worked). faults_of w.1) (map (λ (d : Done L). worked_of d) dones)
+faults_of_workers config seed [] [] back = refl
+faults_of_workers config seed [] (d ∷ ds) back = absurd back
+faults_of_workers config seed (j ∷ js) [] back = absurd back
+faults_of_workers {L = L} config seed (j ∷ js) (d ∷ ds) back =
+    let told : Done L → List NodeFault = λ d. faults_told d in
+    let refused : Worked → List NodeFault = λ w. faults_of w.1 in
+    let others = map (λ (d : Done L). worked_of d) ds in
+    flat_map-cons told d ds ∙ ap (λ fs. fs ++ flat_map told ds) back.0.0
+    ∙ ap (λ fs. faults_of d.refusals ++ fs) (faults_of_workers config seed js ds back.1)
+    ∙ sym (flat_map-cons refused (worked_of d) others)
+
+-- what workers came to whose jobs are those of blocks
 pub of_blocks : {L : Type 0} (config : Config) (seed : List ℕ) (blocks : List BlockValue) (jobs : List (Job L))
     (dones : List (Done L))
     → map (λ (j : Job L). map ask_told j.asks.items) jobs ≡ map asks_of_block blocks
     → AllZip (λ (j : Job L) (d : Done L). HandsBack config seed (map ask_told j.asks.items) d) jobs dones
     → All (λ (d : Done L). lack_memory d.faults.items ≡ false) dones
-    → AllZip (IsOfBlock config seed) blocks (map (λ (d : Done L). d.receipts) dones)
+    → AllZip (IsOfBlock config seed) blocks (map (λ (d : Done L). worked_of d) dones)
 of_blocks config seed [] [] [] same back memory = tt
 of_blocks config seed [] [] (d ∷ ds) same back memory = absurd back
 of_blocks config seed [] (j ∷ js) dones same back memory = absurd (nil_not_cons (sym same))
@@ -148,11 +187,8 @@ of_blocks config seed (b ∷ bs) [] dones same back memory = absurd (nil_not_con
 of_blocks config seed (b ∷ bs) (j ∷ js) [] same back memory = absurd back
 of_blocks {L = L} config seed (b ∷ bs) (j ∷ js) (d ∷ ds) same back memory =
     let here : map ask_told j.asks.items ≡ asks_of_block b = ap (first_or (asks_of_block b)) same in (
-      (
-        d.refusals,
-        subst (λ asks. AreOfThread config seed asks d.receipts.items d.refusals) here
-            (back.0 (All-head (λ (d : Done L). lack_memory d.faults.items ≡ false) d ds memory)),
-      ),
+      subst (λ asks. AreOfThread config seed asks d.receipts.items d.refusals) here
+          (back.0.1 (All-head (λ (d : Done L). lack_memory d.faults.items ≡ false) d ds memory)),
       of_blocks config seed bs js ds (ap rest_of same) back.1
           (All-tail (λ (d : Done L). lack_memory d.faults.items ≡ false) d ds memory),
     )

@@ -38,12 +38,6 @@ pub IfOk-map : {T E : Type 0} (r : Result T E) (A Q : T → Type 0) → ((x : T)
 IfOk-map (Ok x) A Q then a = then x a
 IfOk-map (Err e) A Q then a = tt
 
--- a fact of an answer, and one that holds where there is an answer, give a third
-pub IfOk-on : {T E : Type 0} (r : Result T E) (A Q : T → Type 0) (B : Type 0) → ((x : T) → A x → B → Q x) → IfOk r A →
-    OnOk r B → IfOk r Q
-IfOk-on (Ok x) A Q B both a b = both x a b
-IfOk-on (Err e) A Q B both a b = tt
-
 -- what follows from a fact that holds where there is an answer
 pub OnOk-map : {T E : Type 0} (r : Result T E) (A B : Type 0) → (A → B) → OnOk r A → OnOk r B
 OnOk-map (Ok x) A B then a = then a

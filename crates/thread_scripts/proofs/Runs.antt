@@ -40,4 +40,4 @@ pub plays_of_saying : (written warnings : List ℕ → Type 0) (script : List �
     PlaysTo script written
 plays_of_saying written warnings script h =
     let comes = h.2 in
-    (comes.0, h.0, comes.4, (comes.1, comes.2, comes.5, comes.6, comes.7.0), h.3)
+    (comes.0, h.0, comes.5, (comes.1, comes.2, comes.3, comes.6, comes.7, comes.8.0), h.3)

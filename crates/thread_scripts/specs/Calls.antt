@@ -1,5 +1,5 @@
 -- Which calls receipts are of.
-use Rattle.std.specs.Prelude.{◌≡◌, ◌≢◌, ◌⊎◌, ◌==◌, ℕ, Bool, true, false, MatchBool, List, [], ◌∷◌, ◌++◌}
+use Rattle.std.specs.Prelude.{◌≡◌, ◌≢◌, ◌⊎◌, ◌==◌, ℕ, Bool, true, false, MatchBool, List, [], ◌∷◌, ◌++◌, map}
 use Rattle.std.specs.List.{list_any}
 use Rattle.node_steps.specs.declared.config.Config.{Config}
 use Rattle.node_calls.specs.declared.ask.Ask.{Ask}
@@ -76,9 +76,26 @@ lack_memory refusals = list_any (λ f. is_memory f.1) refusals
 
 -- of a thread that was to make these calls, and what it was refused; of none, where it couldn't start
 abbrev pub AreOfThread : Config → List ℕ → List AskTold → List Receipt → List Refusal → Type 0
-AreOfThread config seed asks receipts refusals = AreMade config seed asks receipts refusals ⊎ (receipts ≡ [])
+AreOfThread config seed asks receipts refusals =
+    AreMade config seed asks receipts refusals ⊎ ((receipts ≡ []) × (refusals ≡ []))
 
--- what a worker handed back that was to make these calls, where none lacked memory
+-- why calls were refused, one after the other
+abbrev pub FaultList : Type 0
+FaultList = List NodeFault
+
+abbrev pub faults_of : List Refusal → FaultList
+faults_of refusals = map (λ (r : Refusal). r.1) refusals
+
+-- the same of a worker's faults, each of which has the number of its call
+abbrev pub faults_in : List (ℕ × NodeFault) → FaultList
+faults_in told = map (λ (f : ℕ × NodeFault). f.1) told
+
+abbrev pub faults_told : {L : Type 0} → Done L → FaultList
+faults_told d = faults_in d.faults.items
+
+-- what a worker handed back that was to make these calls: why they were refused, and where none lacked memory, what
+-- they came to
 abbrev pub HandsBack : {L : Type 0} → Config → List ℕ → List AskTold → Done L → Type 0
 HandsBack config seed asks d =
-    lack_memory d.faults.items ≡ false → AreOfThread config seed asks d.receipts.items d.refusals
+    (faults_told d ≡ faults_of d.refusals)
+    × (lack_memory d.faults.items ≡ false → AreOfThread config seed asks d.receipts.items d.refusals)

@@ -1,5 +1,6 @@
 -- What holds of every run.
-use Rattle.std.specs.Prelude.{◌≡◌, ℕ, ◌<◌, ◌^◌, false, List, Some, Err}
+use Rattle.std.specs.Prelude.{◌≡◌, ℕ, ◌<◌, ◌^◌, false, All, List, count_by, length, Some, Err}
+use Rattle.std.specs.List.{range_with_len, sum_by}
 use Rattle.audit.specs.declared.fault.AuditFault.TheVariants.{WrongReply}
 use Rattle.audit.specs.Answers.{IsAudited}
 use Rattle.audit.specs.Receipts.{Lists}
@@ -12,6 +13,7 @@ use Rattle.node_steps.specs.Nodes.{Node}
 use Rattle.node_steps.specs.Refusals.{is_full, refusal_at}
 use Rattle.thread_plans.specs.Plans.{PlanValue}
 use Rattle.thread_scripts.specs.Plays.{AreTracesOf}
+use Rattle.thread_scripts.specs.RefusedCalls.{IsCoded, codes_end, has_code}
 use Rattle.thread_scripts.specs.Unfit.{why_refused}
 
 -- an audit of a plan's own traces never says that a reply is wrong
@@ -24,3 +26,9 @@ abbrev pub UnfitIsRefused : Type 0
 UnfitIsRefused = (config : Config) (entries : ℕ) (n : Node) (call : AskTold) (words : List ℕ) (fault : NodeFault) →
     is_full config entries ≡ false → why_refused call ≡ Some fault →
     refusal_at config entries n (asked_first config.nodes call) words ≡ Some fault
+
+-- each call that was refused is counted under one code, with which the text of its fault begins
+abbrev pub RefusedAreCounted : Type 0
+RefusedAreCounted = (refused : List NodeFault) →
+    (sum_by (λ code. count_by (has_code code) refused) (range_with_len 0 codes_end) ≡ length refused)
+    × All IsCoded refused

@@ -9,4 +9,5 @@ pub mod Unfit
 pub mod Unfits
 pub mod Short
 pub mod ShortStarts
+pub mod RefusedCalls
 pub mod Warnings

@@ -16,7 +16,7 @@ use Rattle.gossip.specs.Mailboxes.{Place, new_place}
 use Rattle.thread_plans.specs.declared.plan.Rounds.{Rounds}
 use Rattle.thread_plans.specs.Plans.{BlockValue, PlanValue}
 use Rattle.thread_scripts.specs.Asks.{asks_of_block}
-use Rattle.thread_scripts.specs.Calls.{AreOfStarts, AreOfThread}
+use Rattle.thread_scripts.specs.Calls.{AreOfStarts, AreOfThread, FaultList, faults_of}
 use Rattle.thread_scripts.specs.Gossips.{AreOfGossip, gossip_over}
 
 -- a trace is legal for a node of this configuration, and its random draws are the first ones of this seed
@@ -49,37 +49,48 @@ blocks_of plan node = filter (λ b. b.node == node) plan.blocks
 abbrev pub gossip_at : PlanValue → ℕ → Option (Place × Rounds)
 gossip_at plan node = gossip_over (new_place plan.nodes node) plan.gossip
 
--- a list of what a thread was given that was to do what a block asks
-abbrev pub IsOfBlock : Config → List ℕ → BlockValue → Vec Receipt Global → Type 0
-IsOfBlock config seed block list =
-    (refusals : List Refusal) × AreOfThread config seed (asks_of_block block) list.items refusals
+-- what a worker comes to: the list of its receipts, and what it was refused
+abbrev pub Worked : Type 0
+Worked = Vec Receipt Global × List Refusal
 
--- behind lists that were there before: a list for each of a node's blocks, in their order, and that of its gossip
+-- a thread came to this that was to do what a block asks
+abbrev pub IsOfBlock : Config → List ℕ → BlockValue → Worked → Type 0
+IsOfBlock config seed block worked = AreOfThread config seed (asks_of_block block) worked.0.items worked.1
+
+-- Behind lists that were there before: a list for each of a node's blocks, in their order, and that of its gossip. The
+-- faults say why calls of these blocks were refused
 pub record AreOfWork (config : Config) (seed : List ℕ) (blocks : List BlockValue) (gossip : Option (Place × Rounds))
-    (was lists : Lists) : Type 0 where
-  pub workers : Lists
+    (was lists : Lists) (faults : FaultList) : Type 0 where
+  pub workers : List Worked
   pub gossiped : Lists
-  pub all : lists ≡ was ++ (workers ++ gossiped)
+  pub all : lists ≡ was ++ (map (λ (w : Worked). w.0) workers ++ gossiped)
+  pub refused : faults ≡ flat_map (λ (w : Worked). faults_of w.1) workers
   pub worked : AllZip (IsOfBlock config seed) blocks workers
   pub told : AreOfGossip config seed gossip gossiped
 
 -- The lists of a node of a plan: of what it does before its workers, of each of its blocks, and of its gossip. It gave
--- each to one seat, from its first call on
+-- each to one seat, from its first call on. The faults say why calls of its workers were refused
 pub record AreOfNode (config : Config) (seed : List ℕ) (plan : PlanValue) (gossip : Option (Place × Rounds)) (lists : Lists)
-    : Type 0 where
+    (faults : FaultList) : Type 0 where
   pub starts : Vec Receipt Global
   pub refused : List Refusal
   pub given : AreListsAt config seed lists
   pub started : AreOfStarts config seed plan.starts starts.items refused
-  pub beside : AreOfWork config seed (blocks_of plan config.node) gossip (starts ∷ []) lists
+  pub beside : AreOfWork config seed (blocks_of plan config.node) gossip (starts ∷ []) lists faults
 
--- the lists of so many nodes of a plan, from 0 on
-pub record AreListsBelow (plan : PlanValue) (nodes : ℕ) (lists : Lists) : Type 0 where
-  pub parts : List Lists
+-- what a node comes to: its lists, and why calls of its workers were refused
+abbrev pub Part : Type 0
+Part = Lists × FaultList
+
+-- the lists of so many nodes of a plan, from 0 on, and why calls of their workers were refused
+pub record AreListsBelow (plan : PlanValue) (nodes : ℕ) (lists : Lists) (faults : FaultList) : Type 0 where
+  pub parts : List Part
   pub number : length parts ≡ nodes
-  pub all : lists ≡ flat_map (λ part. part) parts
-  pub each : AllFrom (λ node part. AreOfNode (config_at plan node) plan.seed plan (gossip_at plan node) part) 0 parts
+  pub all : lists ≡ flat_map (λ (part : Part). part.0) parts
+  pub refused : faults ≡ flat_map (λ (part : Part). part.1) parts
+  pub each : AllFrom (λ node (part : Part).
+      AreOfNode (config_at plan node) plan.seed plan (gossip_at plan node) part.0 part.1) 0 parts
 
--- the lists of the plan's nodes, in their order
-abbrev pub AreListsOf : PlanValue → Lists → Type 0
-AreListsOf plan lists = AreListsBelow plan plan.nodes lists
+-- the lists of the plan's nodes, in their order, and why calls of their workers were refused
+abbrev pub AreListsOf : PlanValue → Lists → FaultList → Type 0
+AreListsOf plan lists faults = AreListsBelow plan plan.nodes lists faults

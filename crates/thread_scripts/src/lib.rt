@@ -10,6 +10,7 @@ mod lists;
 mod nodes;
 mod output;
 mod played;
+mod refused;
 mod rounds;
 mod run;
 mod short;

@@ -12,9 +12,10 @@ ghost use Rattle.thread_scripts.specs.Plays.{blocks_of};
 use crate::asks::jobs_of;
 use crate::beside::{Gossip, work, work_and_gossip};
 use crate::finished::Finished;
+use crate::refused::faults_of;
 use crate::starts::make_starts;
 use crate::waits::Waits;
-use node_core::{Config, Receipt, Trace};
+use node_core::{Config, NodeFault, Receipt, Trace};
 use node_registry::{Closed, Label, Registry, Seat};
 use std::alloc::{AllocError, Global};
 use std::marker::Brand;
@@ -31,13 +32,18 @@ pub(crate) struct NodeJob {
     ghost good: { is_bad_config config ≡ false },
 }
 
-/// What a node's run came to: its trace, and of each seat the receipts of its calls, in their order.
+/// What a node's run came to: its trace; of each seat the receipts of its calls, in their order; and why
+/// calls of its workers were refused.
 #[derive(Drop)]
 pub(crate) struct NodePlayed {
     pub trace: Trace,
     pub lists: Vec<Vec<Receipt>>,
+    pub faults: Vec<NodeFault>,
     ghost counted: { length trace.calls ≡ sum_by (λ list. vec_len list) lists.items },
 }
+
+/// Seats that are done, and why calls of workers were refused.
+type Worked<L> = (Finished<L>, Vec<NodeFault>);
 
 // The calls of a node's workers, and its gossip beside them, from as many seats.
 fn make_calls_beside<L: Label + Send + Sync, R: Threads + Wait + Sync>(
@@ -50,30 +56,33 @@ fn make_calls_beside<L: Label + Send + Sync, R: Threads + Wait + Sync>(
     waits: &Waits,
     node: u8,
     gossip: Option<Gossip>,
-) -> Result<Finished<L>, AllocError>
+) -> Result<Worked<L>, AllocError>
     requires few { vec_len seats < 2 ^ 8 }
     requires each { vec_len seats ≡ count_by (λ b. b.node == node) plan.now.blocks.items
         + cond (is_some gossip) 1 0 }
     requires fresh { All (λ calls. calls ≡ 0) seats.items }
     requires given { AreListsAt L.config L.seed finished.lists.items }
     ensures len { IfOk result (λ all.
-        vec_len all.seats ≡ vec_len finished.seats + vec_len seats) }
-    ensures given { IfOk result (λ all. AreListsAt L.config L.seed all.lists.items) }
+        vec_len all.0.seats ≡ vec_len finished.seats + vec_len seats) }
+    ensures given { IfOk result (λ all. AreListsAt L.config L.seed all.0.lists.items) }
     ensures calls { IfOk result (λ all. AreOfWork L.config L.seed
-        (blocks_of (plan_value plan.now) node)
-        (option_map (λ g. (g.wire, g.rounds)) gossip) finished.lists.items all.lists.items) }
+        (blocks_of (plan_value plan.now) node) (option_map (λ g. (g.wire, g.rounds)) gossip)
+        finished.lists.items all.0.lists.items all.1.items) }
 {
     let Some(gossip) = gossip else {
         let jobs = jobs_of(alloc, registry, seats, &plan.blocks, node)?;
-        return finished.with_workers(work(rt, alloc, registry, waits, node, jobs)?);
+        let dones = work(rt, alloc, registry, waits, node, jobs)?;
+        let faults = faults_of(alloc, &dones)?;
+        return Ok((finished.with_workers(dones)?, faults));
     };
     let Some(seat) = seats.pop() else {
         unreachable!();
     };
     let jobs = jobs_of(alloc, registry, seats, &plan.blocks, node)?;
     let both = work_and_gossip(rt, alloc, registry, waits, node, seat, gossip, jobs)?;
+    let faults = faults_of(alloc, &both.dones)?;
     let finished = finished.with_workers(both.dones)?;
-    finished.with_gossip(both.gossiped)
+    Ok((finished.with_gossip(both.gossiped)?, faults))
 }
 
 // Makes the calls of a node: first the ones before the workers, and then those of the workers and of
@@ -87,15 +96,15 @@ fn make_calls<L: Label + Send + Sync, R: Threads + Wait + Sync>(
     waits: &Waits,
     node: u8,
     gossip: Option<Gossip>,
-) -> Result<Finished<L>, AllocError>
+) -> Result<Worked<L>, AllocError>
     requires node { node ≡ L.config.node }
     requires few { vec_len seats < 2 ^ 8 }
     requires each { vec_len seats ≡ count_by (λ b. b.node == node) plan.now.blocks.items + 1
         + cond (is_some gossip) 1 0 }
     requires fresh { All (λ calls. calls ≡ 0) seats.items }
-    ensures len { IfOk result (λ all. vec_len all.seats ≡ vec_len seats) }
+    ensures len { IfOk result (λ all. vec_len all.0.seats ≡ vec_len seats) }
     ensures calls { IfOk result (λ all. AreOfNode L.config L.seed (plan_value plan.now)
-        (option_map (λ g. (g.wire, g.rounds)) gossip) all.lists.items) }
+        (option_map (λ g. (g.wire, g.rounds)) gossip) all.0.lists.items all.1.items) }
 {
     let finished = Finished::new(alloc);
     let Some(seat) = seats.pop() else {
@@ -128,7 +137,7 @@ fn run_registry<L: Label + Send + Sync, R: Threads + Wait + Sync>(
     ensures trace { IfOk result (λ played. IsTraceOf job.config plan.now.seed played.trace) }
     ensures lists { IfOk result (λ played. AreOfNode job.config plan.now.seed
         (plan_value plan.now) (option_map (λ g. (g.wire, g.rounds)) job.gossip)
-        played.lists.items) }
+        played.lists.items played.faults.items) }
 {
     let NodeJob { config, gossip } = job;
     let started = Registry::<L>::start(rt, alloc, blank, config, plan.seed, seats);
@@ -137,7 +146,7 @@ fn run_registry<L: Label + Send + Sync, R: Threads + Wait + Sync>(
         return Err(AllocError);
     };
     let node = config.node;
-    let finished = make_calls(rt, alloc, &registry, seats, plan, waits, node, gossip)?;
+    let (finished, faults) = make_calls(rt, alloc, &registry, seats, plan, waits, node, gossip)?;
     waits.settle(rt, &registry, node);
     let Finished { seats, lists } = finished;
     let Closed {
@@ -145,7 +154,11 @@ fn run_registry<L: Label + Send + Sync, R: Threads + Wait + Sync>(
         trace,
         calls: _,
     } = registry.close(seats);
-    Ok(NodePlayed { trace, lists })
+    Ok(NodePlayed {
+        trace,
+        lists,
+        faults,
+    })
 }
 
 // One seat for the calls before the workers, one for each block, and one for gossip.
@@ -167,7 +180,7 @@ pub(crate) fn run_node<R: Threads + Wait + Sync>(
     ensures trace { IfOk result (λ played. IsTraceOf job.config plan.now.seed played.trace) }
     ensures lists { IfOk result (λ played. AreOfNode job.config plan.now.seed
         (plan_value plan.now) (option_map (λ g. (g.wire, g.rounds)) job.gossip)
-        played.lists.items) }
+        played.lists.items played.faults.items) }
 {
     let seats = seats_at(plan, &job);
     let blank = Blank::new(u64::from(seats));

@@ -7,6 +7,7 @@ ghost use Rattle.thread_plans.specs.Plans.{plan_in, plan_value};
 ghost use Rattle.thread_scripts.specs.Warnings.{audit_said, warned_text};
 
 use crate::played::Played;
+use crate::refused::say_refused;
 use crate::short::say_shorts;
 use crate::short_starts::say_starts;
 use crate::unfit::{say_unset, unfit_text, unset_in};
@@ -24,10 +25,10 @@ fn say_audit(yes: bool, said: &mut Vec<u8>) -> Result<(), AllocError>
     said.extend_from_slice(b"the audit says no\n")
 }
 
-/// What a run of a script is warned of that has this plan and came to these receipts, of which the
-/// audit says yes or no: lines whose calls every node refuses, with the reason; nodes and workers
-/// whose calls weren't all accepted; how many passes met a point that isn't set; and a no. Nothing,
-/// where none of these is so.
+/// What a run of a script is warned of that has this plan and came to this, of which the audit says yes
+/// or no: lines whose calls every node refuses, with the reason; nodes and workers whose calls weren't
+/// all accepted; how many calls of workers were refused with each code; how many passes met a point that
+/// isn't set; and a no. Nothing, where none of these is so.
 pub fn warnings_of(
     alloc: Global,
     script: &[u8],
@@ -36,13 +37,14 @@ pub fn warnings_of(
     yes: bool,
 ) -> Result<Vec<u8>, AllocError>
     requires { length script.now ≤ MOST_BYTES }
-    ensures { IfOk result (λ said. said.items
-        ≡ warned_text script.now (plan_value plan.now) played.now.lists.items yes) }
+    ensures { IfOk result (λ said. said.items ≡ warned_text script.now (plan_value plan.now)
+        played.now.lists.items played.now.faults.items yes) }
 {
     let mut said = unfit_text(alloc, script)?;
     say_starts(alloc, plan, &played.lists, &mut said)?;
     let numbers = worker_lines_of(alloc, script)?;
     say_shorts(alloc, plan, &played.lists, &numbers, &mut said)?;
+    say_refused(alloc, &played.faults, &mut said)?;
     say_unset(alloc, unset_in(&played.lists), &mut said)?;
     say_audit(yes, &mut said)?;
     Ok(said)

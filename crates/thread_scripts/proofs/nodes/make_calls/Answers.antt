@@ -20,8 +20,9 @@ returns-clause-calls g c =
       refused = c.in_ok-seat.field-0-2;
       given = given;
       started = rw c.deref.ensures.value at c.in_ok-seat.ensures.done;
-      beside = subst (λ node. AreOfWork config seed (blocks_of plan node) gossip (starts ∷ []) all.lists.items)
+      beside = subst (λ node. AreOfWork config seed (blocks_of plan node) gossip (starts ∷ []) all.0.lists.items all.1.items)
           c.requires.node
-          (subst (λ was. AreOfWork config seed (blocks_of plan c.args.node) gossip was all.lists.items) first calls);
+          (subst (λ was. AreOfWork config seed (blocks_of plan c.args.node) gossip was all.0.lists.items all.1.items) first
+          calls);
     })
     c.make_calls_beside.ensures.given c.make_calls_beside.ensures.calls

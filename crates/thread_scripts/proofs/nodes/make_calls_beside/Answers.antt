@@ -1,6 +1,5 @@
 use Rattle.std.proofs.Common.{◌≡◌, ℕ, None, rules}
 use Rattle.thread_scripts.proofs.NodeLists.{of_both, of_workers}
-use Rattle.thread_scripts.proofs.Numbered.{IfOk-map, IfOk-on}
 use Rattle.thread_scripts.proofs.Seats.{before_last, the_last}
 use Rattle.thread_scripts.proofs.nodes.make_calls_beside.Goals as goal
 
@@ -19,21 +18,19 @@ work_and_gossip-requires-clause-seat g c =
 pub returns-in_default-clause-calls : goal.returns-in_default-clause-calls
 returns-in_default-clause-calls g c =
     let none : c.args.gossip ≡ None = search rules in
-    rw none (IfOk-on c.with_workers.result _ _ _
-    (λ all is memory.
-    of_workers g.L.Label.config g.L.Label.seed _ c.in_ok-jobs.jobs.items c.in_ok-work.field-0.items
-    c.args.finished.lists.items all.lists.items (rw c.deref.ensures.value at c.in_ok-jobs.ensures.asks)
-    c.in_ok-work.ensures.made memory is)
-    c.with_workers.ensures.lists c.with_workers.ensures.memory)
+    let dones = c.in_ok-dones.dones.items in
+    rw none (of_workers g.L.Label.config g.L.Label.seed _ c.in_ok-jobs.jobs.items dones
+    c.args.finished.lists.items _ _ (rw c.deref.ensures.value at c.in_ok-jobs.ensures.asks)
+    c.in_ok-dones.ensures.made c.in_ok-with_workers.ensures.memory
+    (rw c.deref-in_default.ensures.value at c.in_ok-faults.ensures) c.in_ok-with_workers.ensures.lists)
 
 pub returns-clause-calls : goal.returns-clause-calls
 returns-clause-calls g c =
     let both = c.in_ok-both.both in
     let gossip = c.in-Some.gossip in
-    rw c.in-Some.is (IfOk-map c.with_gossip.result _ _
-    (λ all is.
-    of_both g.L.Label.config g.L.Label.seed _ c.in_ok-jobs-2.jobs.items both.dones.items (gossip.wire, gossip.rounds)
-    both.gossiped.wire both.gossiped.receipts is.0 c.args.finished.lists.items c.in_ok-finished.finished.lists.items
-    all.lists.items (rw c.deref-2.ensures.value at c.in_ok-jobs-2.ensures.asks) c.in_ok-both.ensures.made
-    c.in_ok-finished.ensures.memory c.in_ok-finished.ensures.lists is.1 is.2 c.in_ok-both.ensures.gossiped)
-    c.with_gossip.ensures.lists)
+    let is = c.in_ok-with_gossip.ensures.lists in
+    rw c.in-Some.is (of_both g.L.Label.config g.L.Label.seed _ c.in_ok-jobs-2.jobs.items both.dones.items
+    (gossip.wire, gossip.rounds) both.gossiped.wire both.gossiped.receipts is.0 c.args.finished.lists.items
+    c.in_ok-finished.finished.lists.items _ _ (rw c.deref-2.ensures.value at c.in_ok-jobs-2.ensures.asks)
+    c.in_ok-both.ensures.made c.in_ok-finished.ensures.memory (rw c.deref-3.ensures.value at c.in_ok-faults-2.ensures)
+    c.in_ok-finished.ensures.lists is.1 is.2 c.in_ok-both.ensures.gossiped)

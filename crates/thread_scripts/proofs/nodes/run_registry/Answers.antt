@@ -13,5 +13,6 @@ returns-clause-lists g c =
     let plan = plan_value c.args.plan.now in
     let gossip = option_map (λ g. (g.wire, g.rounds)) c.args.job.gossip in
     let lists = c.in_ok-finished.finished.lists.items in
-    subst (λ k. AreOfNode k c.args.plan.now.seed plan gossip lists) (sym c.requires.config)
-    (subst (λ s. AreOfNode g.L.Label.config s plan gossip lists) (sym c.requires.seed) c.in_ok-finished.ensures.calls)
+    let faults = c.in_ok-finished.faults.items in
+    subst (λ k. AreOfNode k c.args.plan.now.seed plan gossip lists faults) (sym c.requires.config)
+    (subst (λ s. AreOfNode g.L.Label.config s plan gossip lists faults) (sym c.requires.seed) c.in_ok-finished.ensures.calls)
