@@ -196,9 +196,10 @@ no calls.
 On standard error it says what goes wrong, of 20 lines of a kind at most: of
 each line whose call a node refuses whatever it knows, why; of each node how
 many calls of its `start` lines weren't accepted, if some weren't, and of each
-worker how many of its own, by the line where it begins; how many passes met a
-point that isn't set; and that the audit says no. Of a node that spreads rights
-no shift is looked at. --quiet ends that.
+worker how many of its own, by the line where it begins; how many calls of
+workers were refused with each code; how many passes met a point that isn't
+set; and that the audit says no. Of a node that spreads rights no shift is
+looked at. --quiet ends that.
 
 The status is 0. It is 1 where the script can't be read, is longer than
 16777216 bytes, or can't be answered, where memory is refused, and where a line
@@ -211,8 +212,10 @@ at most, unless --quiet is given.
 With --check a script may have more lines: `expect <text>` behind a `start`
 line, which is answered just this; or behind the first worker, where a line
 that is printed is just this; `await <name>[ <stamp>]` in a worker, which goes
-on once its node knows the setting, or its gossip is over, and fails then; and
-`gossip <rounds> first`, for rounds before the workers. All rounds are in step.
+on once its node knows the setting, or its gossip is over, and fails then;
+`gossip <rounds> first`, for rounds before the workers; and in place of `gossip
+<rounds>` `gossip <rounds> share`: each round of each node begins with the
+shifts by which it shares its rights. All rounds are in step.
 The status is 3 where a line fails, a `start` line is refused that isn't
 expected to be, a call of a worker isn't accepted, a pass meets a point that
 isn't set, a line is bad, or the audit says no; standard error says which, and
