@@ -35,10 +35,12 @@
 mod answers;
 mod builder;
 mod chunks;
+mod date;
 mod environment;
 mod error;
 mod fail_rs;
 mod gossip;
+mod heads;
 mod http;
 mod kept;
 mod key;
@@ -58,6 +60,8 @@ mod receipts;
 mod recorder;
 mod registry;
 mod serving;
+mod sha256;
+mod tags;
 mod told;
 
 pub use answers::Reply;

@@ -1,7 +1,7 @@
 //! What was heard of the other nodes of a cluster.
 
 use crate::error::{Error, ErrorKind};
-use crate::http::MAX_BODY;
+use crate::heads::MAX_BODY;
 use std::time::{SystemTime, UNIX_EPOCH};
 
 /// The codes with which a node refuses a message, in byte order.

@@ -1,6 +1,7 @@
 //! What is posted to another node that is served.
 
-use crate::http::{MAX_HEAD, read_by, write_by};
+use crate::heads::MAX_HEAD;
+use crate::http::{read_by, write_by};
 use crate::key::Key;
 use std::io::{self, ErrorKind};
 use std::net::{SocketAddr, TcpStream};

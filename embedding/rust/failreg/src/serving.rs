@@ -3,7 +3,8 @@
 use crate::answers::Reply;
 use crate::error::{Error, ErrorKind};
 use crate::fail_rs::has_failpoints;
-use crate::http::{Connection, Fault, Head};
+use crate::heads::{Fault, Head};
+use crate::http::Connection;
 use crate::key::Key;
 use crate::page::PAGE;
 use crate::registry::Registry;
@@ -406,7 +407,8 @@ pub(crate) fn serve_at(
 ///
 /// The registry is an `Arc<Registry>`, or the program's, a `&'static Registry`. What requests there
 /// are, and what each is answered, [`Registry::answer`] says; besides, `GET /` is answered the page
-/// on which an operator sees the node and changes its points.
+/// on which an operator sees the node and changes its points, and the status has an `ETag`: who has
+/// it in `If-None-Match` is answered 304 and no body, until the status is another one.
 ///
 /// Without a key the address is one of this machine alone, and whoever can connect there may set
 /// points. A page of a browser may not: a request whose `Host` isn't this machine, or that has an

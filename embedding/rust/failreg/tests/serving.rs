@@ -142,6 +142,68 @@ fn an_operator_gets_the_page() {
     assert!(page.starts_with("<!DOCTYPE html>") && page.ends_with("</html>\n"));
 }
 
+// What is answered to a request with these fields behind its Host.
+fn get(addr: SocketAddr, path: &str, fields: &str) -> String {
+    let head = format!("GET {path} HTTP/1.1\r\nHost: localhost\r\n{fields}\r\n");
+    raw(addr, head.as_bytes())
+}
+
+// The tag of a reply, if it has one, and the body.
+fn tag_and_body(reply: &str) -> (Option<&str>, &str) {
+    let (head, body) = reply.split_once("\r\n\r\n").unwrap();
+    let tag = head.lines().find_map(|line| line.strip_prefix("etag: "));
+    (tag, body)
+}
+
+#[test]
+fn the_status_alone_has_a_tag() {
+    let (_node, _serving, addr) = served(2);
+    let reply = get(addr, "/status", "");
+    let (tag, body) = tag_and_body(&reply);
+    let quoted = tag.and_then(|tag| tag.strip_prefix('"')?.strip_suffix('"'));
+    let digits = quoted.expect("it is between quotes");
+    let is_hex = |b: u8| b.is_ascii_digit() || (b'a'..=b'f').contains(&b);
+    assert!(digits.len() == 64 && digits.bytes().all(is_hex), "{digits}");
+    assert!(reply.starts_with("HTTP/1.1 200 OK\r\n") && body.starts_with("{\"node\":"));
+    let any = "If-None-Match: *\r\n";
+    for (path, status) in [
+        ("/report", 200),
+        ("/fail", 200),
+        ("/", 200),
+        ("/status/", 404),
+    ] {
+        let other = get(addr, path, any);
+        assert_eq!((status_of(&other), tag_and_body(&other).0), (status, None));
+    }
+    // Who isn't let in is told why, whatever it has.
+    let foreign = get(addr, "/status", &format!("Origin: null\r\n{any}"));
+    assert_eq!((status_of(&foreign), tag_and_body(&foreign).0), (403, None));
+}
+
+#[test]
+fn who_has_the_status_is_not_sent_it_again() {
+    let (node, _serving, addr) = served(2);
+    let first = get(addr, "/status", "");
+    let (tag, body) = tag_and_body(&first);
+    let has = format!("If-None-Match: {}\r\n", tag.unwrap());
+    for fields in [has.as_str(), "If-None-Match: *\r\n"] {
+        let reply = get(addr, "/status", fields);
+        assert_eq!((status_of(&reply), tag_and_body(&reply)), (304, (tag, "")));
+        assert!(!reply.contains("content"), "{reply}");
+    }
+    let reply = get(addr, "/status", "If-None-Match: \"another\"\r\n");
+    assert_eq!(
+        (status_of(&reply), tag_and_body(&reply)),
+        (200, (tag, body))
+    );
+    node.set("p", "2*off").unwrap();
+    let second = get(addr, "/status", &has);
+    let (later, body) = tag_and_body(&second);
+    assert!(later != tag && body.contains("\"name\":\"p\""), "{second}");
+    let has = format!("If-None-Match: {}\r\n", later.unwrap());
+    assert_eq!(status_of(&get(addr, "/status", &has)), 304);
+}
+
 // What an audit prints of a drill, whose file has this name.
 fn audit(name: &str, nodes: &[&Registry]) -> String {
     let path = Path::new(env!("CARGO_TARGET_TMPDIR")).join(name);
