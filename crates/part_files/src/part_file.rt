@@ -1,7 +1,8 @@
 //! The file of a node's part: it is locked for this process, and the node goes on from what it has.
 
 ghost use Rattle.std.specs.Prelude.{◌≡◌, ◌+◌, false, IfOk};
-ghost use Rattle.part_files.specs.Opened.{calls_of};
+ghost use Rattle.drills.specs.Lines.{head_told};
+ghost use Rattle.part_files.specs.Opened.{IsFirstLine, calls_of, end_of, head_of};
 
 use command_line::{PartOptions, quoted};
 use drills::{PartHead, part_head_in, part_head_text};
@@ -97,7 +98,9 @@ fn locked<R: Clock + Files<File = File>>(rt: &R, path: &str) -> Result<File, Ope
 }
 
 // The head of the part of a node of a run.
-fn head_of(alloc: Global, config: Config, run: &str) -> Result<PartHead, AllocError> {
+fn head_of(alloc: Global, config: Config, run: &str) -> Result<PartHead, AllocError>
+    ensures { IfOk result (λ head. head_told head ≡ head_of config run.now) }
+{
     Ok(PartHead {
         node: config.node,
         nodes: config.nodes,
@@ -195,7 +198,9 @@ fn begin<R: Files<File = File>>(
 }
 
 // The first line of a node's part, with the newline that ends it.
-fn first_line(alloc: Global, head: &PartHead) -> Result<Vec<u8>, AllocError> {
+fn first_line(alloc: Global, head: &PartHead) -> Result<Vec<u8>, AllocError>
+    ensures { IfOk result (λ line. IsFirstLine (head_told head.now) line.items) }
+{
     let mut line = part_head_text(alloc, head)?;
     line.push('\n')?;
     Ok(line.into_bytes())
@@ -233,6 +238,13 @@ fn calls_of(had: Option<Repeated>) -> u64
     had.map_or(0, |had| had.calls)
 }
 
+// Where the last whole line of a part ends, of which this is the first.
+fn end_of(had: Repeated, first: &[u8]) -> u64
+    ensures { result ≡ end_of had first.now }
+{
+    had.bytes.saturating_add(first.len() as u64)
+}
+
 // Has a part end behind its last whole line, or begins it.
 fn make_ready<R: Files<File = File>>(
     rt: &R,
@@ -242,7 +254,7 @@ fn make_ready<R: Files<File = File>>(
     had: Option<Repeated>,
 ) -> io::Result<()> {
     match had {
-        Some(had) => file.set_len(had.bytes.saturating_add(first.len() as u64)),
+        Some(had) => file.set_len(end_of(had, first)),
         None => begin(rt, file, options, first),
     }
 }

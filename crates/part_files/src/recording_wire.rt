@@ -1,10 +1,11 @@
 //! A wire of a node whose part is kept: a message leaves once its line is written.
 
-ghost use Rattle.std.specs.Prelude.{◌≡◌};
+ghost use Rattle.std.specs.Prelude.{◌≡◌, is_ok, Err, OnErr, OnOk};
+ghost use Rattle.gossip.specs.Traffic.{sends};
 
 use gossip::{Reach, Wire, WireError};
 use node_registry::{Label, Registry};
-use part_keeper::Recorder;
+use part_keeper::{NotRecorded, Recorder};
 use std::alloc::Global;
 use std::sync::Wait;
 
@@ -48,7 +49,16 @@ impl<'a, L: Label, W> RecordingWire<'a, L, W> {
     pub fn keep<R: Wait>(&mut self, rt: &R, alloc: Global) -> bool
         ensures { (result ≡ self.new.goes_on) × (self.new.wire ≡ self.old.wire) }
     {
-        self.goes_on = self.recorder.keep(rt, alloc, self.registry).is_ok();
+        let kept = self.recorder.keep(rt, alloc, self.registry);
+        self.note_kept(kept)
+    }
+
+    // Calls are still made just where the lines of those that were made are written.
+    fn note_kept(&mut self, kept: Result<(), NotRecorded>) -> bool
+        ensures value { (result ≡ is_ok kept) × (result ≡ self.new.goes_on) }
+        ensures wire { self.new.wire ≡ self.old.wire }
+    {
+        self.goes_on = kept.is_ok();
         self.goes_on
     }
 
@@ -57,6 +67,29 @@ impl<'a, L: Label, W> RecordingWire<'a, L, W> {
         ensures { result.now ≡ self.old.wire }
     {
         &mut self.wire
+    }
+}
+
+impl<'a, L: Label, W: Wire> RecordingWire<'a, L, W> {
+    // Sends a message where the lines of all calls that were made are written, and else none.
+    fn send_kept<R: Wait>(
+        &mut self,
+        rt: &R,
+        alloc: Global,
+        kept: Result<(), NotRecorded>,
+        to: u8,
+        message: &[u8],
+    ) -> Result<(), WireError>
+        ensures unwritten { OnErr kept ((result ≡ Err WireError.Failed)
+            × (self.new.wire ≡ self.old.wire)) }
+        ensures ok { OnOk result (W.traffic self.new.wire
+            ≡ sends to message.now (W.traffic self.old.wire)) }
+        ensures err { OnErr result (W.traffic self.new.wire ≡ W.traffic self.old.wire) }
+    {
+        match kept {
+            Ok(()) => self.wire.send(rt, alloc, to, message),
+            Err(_) => Err(WireError::Failed),
+        }
     }
 }
 
@@ -70,10 +103,8 @@ impl<'a, L: Label, W: Wire> Wire for RecordingWire<'a, L, W> {
         to: u8,
         message: &[u8],
     ) -> Result<(), WireError> {
-        match self.recorder.keep(rt, alloc, self.registry) {
-            Ok(()) => self.wire.send(rt, alloc, to, message),
-            Err(_) => Err(WireError::Failed),
-        }
+        let kept = self.recorder.keep(rt, alloc, self.registry);
+        self.send_kept(rt, alloc, kept, to, message)
     }
 
     fn take<R: Wait>(&mut self, rt: &R, alloc: Global) -> Result<Option<Vec<u8>>, WireError> {
