@@ -1,26 +1,26 @@
--- What the entries of a map say of its cells, and how large all of them are together.
-use Rattle.std.specs.Prelude.{◌≡◌, ◌≢◌, ◌<◌, ◌≤◌, ◌+◌, ◌*◌, ◌^◌, ◌==◌, ℕ, Bool, true, false, cond, List, [], ◌∷◌, zero}
+-- What the entries of a map of rows say of their cells, and how large all cells are together.
+use Rattle.std.specs.Prelude.{◌≡◌, ◌≢◌, ◌<◌, ◌≤◌, ◌+◌, ◌*◌, ◌^◌, ◌==◌, ℕ, Bool, true, false, cond, List, [], ◌∷◌, length, slice_index, zero}
 use Rattle.std.specs.Ordering.{nat_cmp, eq_by_cmp}
 use Rattle.std.specs.Map.{keys_of}
 use Rattle.std.specs.List.{IsDistinct}
 use Rattle.std.specs.List.Sorted.{IsStrictlySortedBy}
 use Rattle.std.proofs.lemmas.Map.Keys.{IsDistinct-from_sorted, IsDistinct-tail}
-use Rattle.std.proofs.Common.{ap, arith, refl, subst, ◌∙◌}
+use Rattle.std.proofs.Common.{ap, arith, refl, subst, sym, ◌∙◌}
 use Rattle.std.proofs.lemmas.Bool.{eqb-false, eqb-true}
-use Rattle.lattice_laws.specs.Map.{IsMap, MapOrder, admitted_at, map_order, value_at}
-use Rattle.lattice_laws.specs.Max.{IsAtMost, IsNumber, max_order, zero_max}
-use Rattle.lattice_laws.specs.declared.max.Max.{Max}
+use Rattle.std.proofs.lemmas.List.{get_or_past}
+use Rattle.lattice_laws.specs.Map.{IsMap, admitted_at, value_at}
+use Rattle.lattice_laws.specs.Numbers.{AreNumbers, NoneGreater, numbers_order}
 use Rattle.counters.specs.Sums.{node_numbers, sum_below, sum_others}
 use Rattle.counters.specs.Cells.{Cells, Rows, came_to, cell, row_cell, went_from}
 use Rattle.counters.proofs.EntrySums.{sum_below-bound, sum-entry}
-use Rattle.counters.proofs.SumLemmas.{sum_others-zero, sum-zero}
+use Rattle.counters.proofs.SumLemmas.{sum_others-zero, sum-narrow, sum-zero}
 
 -- the entries are those of a map
 abbrev pub AreCells : Cells → Type 0
-AreCells cells = IsMap nat_cmp IsNumber IsAtMost zero_max cells
+AreCells cells = AreNumbers cells
 
 abbrev pub AreRows : Rows → Type 0
-AreRows rows = IsMap nat_cmp AreCells (MapOrder nat_cmp IsAtMost zero_max) [] rows
+AreRows rows = IsMap nat_cmp AreCells NoneGreater [] rows
 
 -- no two entries are of one node
 abbrev pub AreApart : {J : Type 0} → List (ℕ × J) → Type 0
@@ -45,23 +45,6 @@ numbers-is = refl
 zero-either : (t : Bool) → cond t 0 0 ≡ zero
 zero-either true = refl
 zero-either false = refl
-
--- an entry more adds its number
-pub total-entry : (k : ℕ) (v : Max) (rest : Cells) → k < 256 → AreApart ((k, v) ∷ rest)
-    → sum_below node_numbers (cell ((k, v) ∷ rest)) ≡ v.0 + sum_below node_numbers (cell rest)
-unfolding cell
-total-entry k v rest below apart = sum-entry zero_max node_numbers (λ q (held : Max). held.0) (λ q. refl) k v rest
-    (below-numbers k below) apart
-
--- unless it is left out
-total_of_others-entry : (node k : ℕ) (v : Max) (rest : Cells) → k < 256 → AreApart ((k, v) ∷ rest)
-    → sum_others node_numbers node (cell ((k, v) ∷ rest)) ≡ cond (k == node) 0 v.0 + sum_others node_numbers node
-    (cell rest)
-unfolding cell
-total_of_others-entry node k v rest below apart =
-    sum-entry zero_max node_numbers (λ q (held : Max). cond (q == node) 0 held.0) (λ q. zero-either (q == node)) k v
-    rest
-    (below-numbers k below) apart
 
 -- and a row more its number at the node
 total_from_others-entry : (node k : ℕ) (v : Cells) (rest : Rows) → k < 256 → AreApart ((k, v) ∷ rest)
@@ -95,18 +78,6 @@ chosen-other i k n m ne = at (i == k) refl
     at true e = absurd (ne (eqb-true i k e))
     at false e = refl
 
-pub total_of_others-counted : (node k : ℕ) (v : Max) (rest : Cells) → k < 256 → AreApart ((k, v) ∷ rest) → k ≢ node
-    → sum_others node_numbers node (cell ((k, v) ∷ rest)) ≡ v.0 + sum_others node_numbers node (cell rest)
-total_of_others-counted node k v rest below apart ne =
-    total_of_others-entry node k v rest below apart
-    ∙ ap (λ n. n + sum_others node_numbers node (cell rest)) (chosen-other k node 0 v.0 ne)
-
-pub total_of_others-left_out : (node k : ℕ) (v : Max) (rest : Cells) → k < 256 → AreApart ((k, v) ∷ rest) → k ≡ node
-    → sum_others node_numbers node (cell ((k, v) ∷ rest)) ≡ 0 + sum_others node_numbers node (cell rest)
-total_of_others-left_out node k v rest below apart same =
-    total_of_others-entry node k v rest below apart
-    ∙ ap (λ n. n + sum_others node_numbers node (cell rest)) (chosen-same k node 0 v.0 same)
-
 pub total_from_others-counted : (node k : ℕ) (v : Cells) (rest : Rows) → k < 256 → AreApart ((k, v) ∷ rest) → k ≢ node
     → sum_others node_numbers node (λ from. row_cell ((k, v) ∷ rest) from node)
     ≡ cell v node + sum_others node_numbers node (λ from. row_cell rest from node)
@@ -127,13 +98,36 @@ total_from_others-left_out node k v rest below apart same =
 -- each number is one of 64 bits
 pub cell-bound : (cells : Cells) → AreCells cells → (q : ℕ) → cell cells q < 2 ^ 64
 unfolding cell
-cell-bound cells h q = admitted_at nat_cmp IsNumber IsAtMost zero_max max_order cells h q
+cell-bound cells h q = h.small q
 
 pub row_cell-bound : (rows : Rows) → AreRows rows → (from to : ℕ) → row_cell rows from to < 2 ^ 64
 unfolding row_cell
 row_cell-bound rows h from to =
     cell-bound (value_at nat_cmp [] rows from)
-    (admitted_at nat_cmp AreCells (MapOrder nat_cmp IsAtMost zero_max) [] (map_order nat_cmp max_order) rows h from) to
+    (admitted_at nat_cmp AreCells NoneGreater [] numbers_order rows h from) to
+
+-- beyond the last place that is kept there is none
+pub cell-past : (cells : Cells) (node : ℕ) → length cells ≤ node → cell cells node ≡ 0
+unfolding cell
+cell-past cells node past = get_or_past cells node 0 past
+
+-- a number that is read is the node's
+pub cell-read : (cells : Cells) (node : ℕ) → slice_index cells node ≡ cell cells node
+unfolding cell
+cell-read cells node = refl
+
+-- the places that are kept add up to all
+pub total-kept : (cells : Cells) → AreCells cells →
+    sum_below node_numbers (cell cells) ≡ sum_below (length cells) (cell cells)
+total-kept cells h = sum-narrow (length cells) node_numbers (cell cells)
+    (subst (λ n. length cells ≤ n) (sym numbers-is) h.few) (cell-past cells)
+
+-- and those before a place are few
+pub total-below : (cells : Cells) → AreCells cells → (n : ℕ) → n ≤ 256 → sum_below n (cell cells) ≤ 256 * 2 ^ 64
+total-below cells h n few =
+    let most = sum_below-bound n (2 ^ 64) (cell cells) (λ i. let here = cell-bound cells h i in omega arith) in
+    let wide : n * 2 ^ 64 ≤ 256 * 2 ^ 64 = omega (arith, few) in
+    omega arith
 
 -- so all of them fit 128 bits
 bound : (f : ℕ → ℕ) → ((i : ℕ) → f i < 2 ^ 64) → sum_below node_numbers f ≤ 256 * 2 ^ 64
@@ -170,10 +164,6 @@ pub went_from-bound : (node : ℕ) (rows : Rows) → AreRows rows → went_from 
 went_from-bound node rows h = bound-others node (row_cell rows node) (λ to. row_cell-bound rows h node to)
 
 -- nothing is left where no entries are
-pub total-empty : sum_below node_numbers (cell []) ≡ 0
-unfolding cell
-total-empty = sum-zero node_numbers (λ q. 0) (λ q. refl)
-
 pub total_of_others-empty : (node : ℕ) → sum_others node_numbers node (cell []) ≡ 0
 unfolding cell
 total_of_others-empty node = sum_others-zero node_numbers node (λ q. 0) (λ q. refl)

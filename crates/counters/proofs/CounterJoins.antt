@@ -1,22 +1,21 @@
 -- What the order and the joins of counters and budgets say, cell by cell.
-use Rattle.std.specs.Prelude.{◌≡◌, ◌⊎◌, ◌≤◌, ℕ, [], max}
+use Rattle.std.specs.Prelude.{◌≡◌, ℕ, [], max}
 use Rattle.std.specs.Ordering.{nat_cmp}
-use Rattle.std.proofs.Common.{arith, refl, inl, inr, ⊎_elim}
-use Rattle.std.proofs.lemmas.Bool.{cases_eq}
+use Rattle.std.proofs.Common.{arith, refl}
 use Rattle.std.proofs.lemmas.Cmp.{nat_cmp_total}
 use Rattle.lattice_laws.specs.Order.{IsJoin}
-use Rattle.lattice_laws.specs.Map.{MapOrder, map_order, value_at}
-use Rattle.lattice_laws.specs.Max.{IsAtMost, IsNumber, max_join, max_order, zero_max}
+use Rattle.lattice_laws.specs.Map.{MapOrder, value_at}
+use Rattle.lattice_laws.specs.Numbers.{NoneGreater, numbers_order}
 use Rattle.lattice_laws.specs.Pair.{AreBoth, PairOrder}
-use Rattle.lattice_laws.specs.declared.max.Max.{Max}
-use Rattle.lattice_laws.proofs.Parts.{is_empty, join_at, join_first, join_second}
+use Rattle.lattice_laws.proofs.NumberJoins.{numbers_bottom, numbers_join, numbers_join_from}
+use Rattle.lattice_laws.proofs.Parts.{join_at, join_first, join_second}
 use Rattle.counters.specs.Cells.{Cells, Rows, Shares, cell, moved_cell, no_shares, row_cell, spent_cell}
 use Rattle.counters.specs.Joins.{GoesByCell, GoesByShare, HasGreaterCells, HasGreaterShares, JoinsByCell, JoinsByShare}
 use Rattle.counters.proofs.CellLemmas.{AreCells, AreRows}
 
 -- the orders that the types have
 abbrev pub CellsOrder : Cells → Cells → Type 0
-CellsOrder = MapOrder nat_cmp IsAtMost zero_max
+CellsOrder = NoneGreater
 
 abbrev pub RowsOrder : Rows → Rows → Type 0
 RowsOrder = MapOrder nat_cmp CellsOrder []
@@ -48,22 +47,17 @@ pub moved_bottom : (from to : ℕ) → moved_cell no_shares from to ≡ 0
 unfolding row_cell
 moved_bottom from to = cells_bottom to
 
-is_zero : (m : Max) → IsNumber m → IsAtMost m zero_max ⊎ (IsAtMost m zero_max → ⊥)
-is_zero m h =
-    ⊎_elim (λ e. inl (let below : m.0 ≤ 0 = omega arith in below))
-    (λ ne. inr (λ (below : IsAtMost m zero_max). let low : m.0 ≤ 0 = below in ne (omega arith))) (cases_eq m.0 0)
-
 -- a join has the greater number in each cell
 pub cells_join : JoinsByCell AreCells CellsOrder
 unfolding cell
-cells_join x y j join node = max_join _ _ _ (join_at nat_cmp_total max_order is_zero x y j join node)
+cells_join x y j join node = numbers_join x y j join node
 
 rows_join : (x y j : Rows) → IsJoin AreRows RowsOrder x y j → (from to : ℕ) →
     row_cell j from to ≡ max (row_cell x from to) (row_cell y from to)
 unfolding row_cell
 rows_join x y j join from to =
     cells_join (value_at nat_cmp [] x from) (value_at nat_cmp [] y from) (value_at nat_cmp [] j from)
-    (join_at nat_cmp_total (map_order nat_cmp max_order) (is_empty nat_cmp_total max_order) x y j join from) to
+    (join_at nat_cmp_total numbers_order (λ cells h. numbers_bottom cells) x y j join from) to
 
 pub shares_join : JoinsByShare AreShares SharesOrder
 shares_join x y j join = (
@@ -74,18 +68,8 @@ shares_join x y j join = (
 -- and what has the greater number in each cell is a join
 pub cells_join_from : (x y j : Cells) → AreCells x → AreCells y → AreCells j → HasGreaterCells x y j →
     IsJoin AreCells CellsOrder x y j
-cells_join_from x y j a b c greater = record {
-  admitted_first = a;
-  admitted_second = b;
-  admitted_join = c;
-  above_first = (cells_order x j).1 (λ node. let here = greater node in omega arith);
-  above_second = (cells_order y j).1 (λ node. let here = greater node in omega arith);
-  least = λ u d l m. (cells_order j u).1 (λ node.
-      let here = greater node in
-      let first = (cells_order x u).0 l node in
-      let second = (cells_order y u).0 m node in
-      omega arith);
-}
+unfolding cell
+cells_join_from x y j a b c greater = numbers_join_from x y j a b c greater
 
 pub shares_join_from : (x y j : Shares) → AreShares x → AreShares y → AreShares j → HasGreaterShares x y j →
     IsJoin AreShares SharesOrder x y j

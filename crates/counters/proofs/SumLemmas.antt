@@ -11,6 +11,10 @@ sum-same (suc n) f g h =
     let here = h n (omega arith) in
     omega arith
 
+-- one place more
+pub sum-next : (n : ℕ) (f : ℕ → ℕ) → sum_below (n + 1) f ≡ f n + sum_below n f
+sum-next n f = ap (λ k. sum_below k f) (let one : n + 1 ≡ suc n = omega arith in one)
+
 pub sum-le : (n : ℕ) (f g : ℕ → ℕ) → ((i : ℕ) → f i ≤ g i) → sum_below n f ≤ sum_below n g
 sum-le zero f g h = omega arith
 sum-le (suc n) f g h =

@@ -1,4 +1,4 @@
--- What a change of a map's entries does to its cells.
+-- What a write does to cells.
 use Rattle.std.specs.Prelude.{◌≡◌, ◌≢◌, ◌≤◌, ℕ, max, true, false, Option, Some, None, IsSome, [], unwrap_or, Result, Ok, Err, OnOk, OnErr}
 use Rattle.std.specs.Ordering.{nat_cmp}
 use Rattle.std.specs.declared.cmp.Ordering.TheVariants.{Equal}
@@ -6,10 +6,9 @@ use Rattle.std.proofs.Common.{ap, arith, refl, sym, ◌∙◌, ⊎_elim}
 use Rattle.std.proofs.lemmas.Bool.{cases_eq}
 use Rattle.std.proofs.lemmas.Map.Lookups.{exact_unsigned}
 use mathlib.Core.Bool.{false≢true}
-use Rattle.lattice_laws.specs.Map.{IsStored, MapOrder, PutsOnly, RaisesOnly, map_order, stored_at, value_at}
-use Rattle.lattice_laws.specs.Max.{IsAtMost, IsNumber, max_join, max_order, zero_max}
+use Rattle.lattice_laws.specs.Map.{IsStored, PutsOnly, RaisesOnly, stored_at, value_at}
+use Rattle.lattice_laws.specs.Numbers.{NoneGreater, WritesNumber, numbers_order}
 use Rattle.lattice_laws.specs.Order.{IsJoin}
-use Rattle.lattice_laws.specs.declared.max.Max.{Max}
 use Rattle.lattice_laws.proofs.Joins.{copy_from_bottom}
 use Rattle.counters.specs.Cells.{Cells, Rows, WritesCell, WritesRowCell, cell, row_cell}
 use Rattle.counters.proofs.CellLemmas.{AreCells}
@@ -31,45 +30,15 @@ OnErr-always P (Err e) h = h
 apart : (node q : ℕ) → q ≢ node → nat_cmp node q ≢ Equal
 apart node q ne same = ne (sym (exact_unsigned node q same))
 
--- a number that is put is the cell's
-put_number : (o : Option Max) (value : Max) → IsStored nat_cmp IsNumber IsAtMost zero_max o value →
-    (let held = unwrap_or o zero_max in held.0) ≡ value.0
-put_number None value h = let below : value.0 ≤ 0 = h in omega arith
-put_number (Some held) value h = ap (λ (m : Max). m.0) h.0
-
-pub put_cell : (old new : Cells) (node number : ℕ) (value : Max) → value.0 ≡ number
-    → PutsOnly nat_cmp IsNumber IsAtMost zero_max old new node value → WritesCell old new node number
+-- a number that is written is the cell's
+pub wrote_cell : (old new : Cells) (node number : ℕ) → WritesNumber old new node number → WritesCell old new node number
 unfolding cell
-put_cell old new node number value e puts = record {
-  this_cell = put_number (stored_at nat_cmp new node) value puts.this_key ∙ e;
-  other_cells = λ q ne. ap (λ o. let held = unwrap_or o zero_max in held.0) (puts.other_keys q (apart node q ne));
-}
+wrote_cell old new node number wrote = record { this_cell = wrote.this_place; other_cells = wrote.other_places }
 
--- a cell that is raised has the greater number
-pub raised_cell : (old new : Cells) (node number : ℕ)
-    → RaisesOnly nat_cmp IsNumber IsAtMost zero_max old new node (record { 0 = number })
-    → WritesCell old new node (max (cell old node) number)
-unfolding cell
-raised_cell old new node number raises = record {
-  this_cell = let greater = max_join _ (record { 0 = number }) _ raises.this_key in omega arith;
-  other_cells = λ q ne. ap (λ o. let held = unwrap_or o zero_max in held.0) (raises.other_keys q (apart node q ne));
-}
-
--- the number of an entry that is there
-pub found_cell : (cells : Cells) (node : ℕ) (held : Max) → stored_at nat_cmp cells node ≡ Some held →
-    cell cells node ≡ held.0
-unfolding cell
-found_cell cells node held found = ap (λ o. let held = unwrap_or o zero_max in held.0) found
-
--- a node without an entry has 0
-pub absent_cell : (cells : Cells) (node : ℕ) → (IsSome (stored_at nat_cmp cells node) → false ≡ true) →
-    cell cells node ≡ 0
-unfolding cell
-absent_cell cells node none = by_entry (stored_at nat_cmp cells node) none
-  where
-    by_entry : (o : Option Max) → (IsSome o → false ≡ true) → (let held = unwrap_or o zero_max in held.0) ≡ 0
-    by_entry None h = refl
-    by_entry (Some held) h = absurd (false≢true (h refl))
+-- where it was as great, nothing changes
+pub kept_cell : (cells : Cells) (node number : ℕ) → number ≤ cell cells node →
+    WritesCell cells cells node (max (cell cells node) number)
+kept_cell cells node number low = record { this_cell = omega arith; other_cells = λ q ne. refl }
 
 -- nothing is held where there are no entries
 pub empty_cell : (q : ℕ) → cell [] q ≡ 0
@@ -98,35 +67,35 @@ unheld_row_cell rows from none q = ap (λ o. cell (unwrap_or o []) q) none ∙ e
 
 -- a row that is put has the same cells
 put_row_cell : (rows : Rows) (from : ℕ) (left : Cells)
-    → IsStored nat_cmp AreCells (MapOrder nat_cmp IsAtMost zero_max) [] (stored_at nat_cmp rows from) left → (q : ℕ)
+    → IsStored nat_cmp AreCells NoneGreater [] (stored_at nat_cmp rows from) left → (q : ℕ)
     → row_cell rows from q ≡ cell left q
 unfolding cell row_cell
 put_row_cell rows from left stored q = by_entry (stored_at nat_cmp rows from) stored
   where
-    by_entry : (o : Option Cells) → IsStored nat_cmp AreCells (MapOrder nat_cmp IsAtMost zero_max) [] o left →
+    by_entry : (o : Option Cells) → IsStored nat_cmp AreCells NoneGreater [] o left →
         cell (unwrap_or o []) q ≡ cell left q
     by_entry None h = let below : cell left q ≤ 0 = h q in omega arith
     by_entry (Some held) h = ap (λ row. cell row q) h.0
 
 -- and so has a row that is raised from nothing
-raised_row_cell : (row new : Cells) → IsJoin AreCells (MapOrder nat_cmp IsAtMost zero_max) [] row new → (q : ℕ) →
+raised_row_cell : (row new : Cells) → IsJoin AreCells NoneGreater [] row new → (q : ℕ) →
     cell new q ≡ cell row q
 unfolding cell
 raised_row_cell row new join q =
-    let copy = copy_from_bottom (map_order nat_cmp max_order) row new join in
+    let copy = copy_from_bottom numbers_order row new join in
     let above : cell row q ≤ cell new q = copy.above q in
     let below : cell new q ≤ cell row q = copy.below q in
     omega arith
 
 raised_from_none : (old new : Rows) (from : ℕ) (row : Cells) → (IsSome (stored_at nat_cmp old from) → false ≡ true)
-    → IsJoin AreCells (MapOrder nat_cmp IsAtMost zero_max) (value_at nat_cmp [] old from) row
+    → IsJoin AreCells NoneGreater (value_at nat_cmp [] old from) row
     (value_at nat_cmp [] new from)
     → (q : ℕ) → row_cell new from q ≡ cell row q
 unfolding row_cell
 raised_from_none old new from row none join q = by_entry (stored_at nat_cmp old from) none join
   where
     by_entry : (o : Option Cells) → (IsSome o → false ≡ true)
-        → IsJoin AreCells (MapOrder nat_cmp IsAtMost zero_max) (unwrap_or o []) row (value_at nat_cmp [] new from)
+        → IsJoin AreCells NoneGreater (unwrap_or o []) row (value_at nat_cmp [] new from)
         → cell (value_at nat_cmp [] new from) q ≡ cell row q
     by_entry None h j = raised_row_cell row (value_at nat_cmp [] new from) j q
     by_entry (Some held) h j = absurd (false≢true (h refl))
@@ -144,7 +113,7 @@ other_place from to f t P h other this = ⊎_elim (λ e. this e (λ g. h (e, g))
 
 -- a row in which a number was written is put
 pub put_row : (old new : Rows) (from to number : ℕ) (held left : Cells) → stored_at nat_cmp old from ≡ Some held
-    → PutsOnly nat_cmp AreCells (MapOrder nat_cmp IsAtMost zero_max) [] old new from left
+    → PutsOnly nat_cmp AreCells NoneGreater [] old new from left
     → WritesCell held left to number → WritesRowCell old new from to number
 put_row old new from to number held left found puts writes = record {
   this_cell = put_row_cell new from left puts.this_key to ∙ writes.this_cell;
@@ -160,7 +129,7 @@ put_row old new from to number held left found puts writes = record {
 -- a row with one number is raised from nothing
 pub raised_row : (old new : Rows) (from to number : ℕ) (row : Cells)
     → (IsSome (stored_at nat_cmp old from) → false ≡ true) → WritesCell [] row to number
-    → RaisesOnly nat_cmp AreCells (MapOrder nat_cmp IsAtMost zero_max) [] old new from row
+    → RaisesOnly nat_cmp AreCells NoneGreater [] old new from row
     → WritesRowCell old new from to number
 raised_row old new from to number row none writes raises =
     let all : (q : ℕ) → row_cell new from q ≡ cell row q = λ q. raised_from_none old new from row none raises.this_key

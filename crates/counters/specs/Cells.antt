@@ -1,17 +1,15 @@
 -- Numbers by node, 0 where there is none.
-use Rattle.std.specs.Prelude.{◌≡◌, ◌≢◌, ℕ, ◌-◌, ◌^◌, Bool, nat_lt, List, []}
+use Rattle.std.specs.Prelude.{◌≡◌, ◌≢◌, ℕ, ◌-◌, ◌^◌, Bool, nat_lt, List, [], slice_index}
 use Rattle.std.specs.Ordering.{nat_cmp}
 use Rattle.lattice_laws.specs.Map.{value_at}
-use Rattle.lattice_laws.specs.Max.{zero_max}
 use Rattle.lattice_laws.specs.Pair.{pair_of}
-use Rattle.lattice_laws.specs.declared.max.Max.{Max}
 use Rattle.lattice_laws.specs.declared.pair.PairOf.{PairOf}
 use Rattle.counters.specs.Budgets.{Budget}
 use Rattle.counters.specs.Sums.{node_numbers, sum_below, sum_others}
 
--- a number for each node
+-- a number for each node, by its place
 abbrev pub Cells : Type 0
-Cells = List (ℕ × Max)
+Cells = List ℕ
 
 -- the greatest number of a cell
 abbrev pub most : ℕ
@@ -23,7 +21,7 @@ is_too_great number = nat_lt most number
 
 -- the number of a node
 unfoldable pub cell : Cells → ℕ → ℕ
-cell cells node = let held = value_at nat_cmp zero_max cells node in held.0
+cell cells node = slice_index cells node
 
 -- new has the number at the node, and every other node's as in old
 pub record WritesCell (old new : Cells) (node number : ℕ) : Type 0 where

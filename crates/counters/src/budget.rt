@@ -9,11 +9,11 @@ ghost use Rattle.counters.specs.Cells.{WritesSpent, WritesMoved};
 ghost use Rattle.counters.specs.Refusals.{spend_refusal, shift_refusal, grant_refusal, too_great, IsRefusal};
 
 use crate::cells::{
-    Cells, Rows, add_rows, count, number_in_row, number_of, raise, raise_row, subtract_numbers,
-    total, total_from_others, total_of_own, total_to_others, write_numbers,
+    Cells, Rows, add_rows, count, number_in_row, number_of, raise, raise_row, total,
+    total_from_others, total_of_own, total_to_others, write_negated, write_numbers,
 };
 use crate::fault::CounterFault;
-use lattice_laws::{Join, MapOf, PairOf};
+use lattice_laws::{Join, PairOf};
 use std::alloc::{AllocError, Global};
 use std::marker::Model;
 
@@ -46,8 +46,8 @@ impl Budget {
     {
         Budget {
             shares: PairOf {
-                first: MapOf::new(alloc),
-                second: MapOf::new(alloc),
+                first: Cells::new(alloc),
+                second: Rows::new(alloc),
             },
         }
     }
@@ -72,9 +72,8 @@ impl Budget {
         ensures { into.new
             ≡ map (rights (budget_of self.now setter count)) (range_with_len 0 (length into.old)) }
     {
-        into.fill(0);
+        write_negated(&self.shares.first, into);
         add_rows(&self.shares.second, into);
-        subtract_numbers(&self.shares.first, into);
         let place = usize::from(setter);
         if place < into.len() {
             into[place] += i128::from(count);
@@ -127,13 +126,7 @@ impl Budget {
     /// Spends one right of a node, and answers how many it has now spent. It is refused where the
     /// node has no right (`TooFewRights`), where it has spent 2^64 - 1 (`CellFull`), and where it
     /// has spent none and memory is refused (`OutOfMemory`).
-    pub fn spend(
-        &mut self,
-        alloc: Global,
-        setter: u8,
-        count: u64,
-        node: u8,
-    ) -> Result<u64, CounterFault>
+    pub fn spend(&mut self, setter: u8, count: u64, node: u8) -> Result<u64, CounterFault>
         ensures ok { OnOk result (spend_refusal (budget_of self.old setter count) node ≡ None) }
         ensures answer { IfOk result (λ spent. spent ≡ spent_cell self.old node + 1) }
         ensures after { IfOk result (WritesSpent self.old self.new node) }
@@ -143,14 +136,14 @@ impl Budget {
         ensures err { OnErr result (self.new ≡ self.old) }
     {
         let spent = self.spend_checked(setter, count, node)?;
-        raise(&mut self.shares.first, alloc, node, spent)?;
+        raise(&mut self.shares.first, node, spent)?;
         Ok(spent)
     }
 
     /// Counts one right more that a node spent, whether or not it has one, and answers how many it
     /// has now spent. It is refused where the node has spent 2^64 - 1 (`CellFull`), and where it has
     /// spent none and memory is refused (`OutOfMemory`).
-    pub fn count_spent(&mut self, alloc: Global, node: u8) -> Result<u64, CounterFault>
+    pub fn count_spent(&mut self, node: u8) -> Result<u64, CounterFault>
         ensures ok { OnOk result (too_great (spent_cell self.old node + 1) ≡ None) }
         ensures answer { IfOk result (λ spent. spent ≡ spent_cell self.old node + 1) }
         ensures after { IfOk result (WritesSpent self.old self.new node) }
@@ -158,7 +151,7 @@ impl Budget {
             (IsRefusal (too_great (spent_cell self.old node + 1)) (spent_cell self.old node)) }
         ensures err { OnErr result (self.new ≡ self.old) }
     {
-        count(&mut self.shares.first, alloc, node)
+        count(&mut self.shares.first, node)
     }
 
     /// Moves rights of a node to another, and answers how many it has now moved there in all. It
@@ -207,13 +200,13 @@ impl Budget {
 
     /// Raises what a node spent to at least this number. Memory is asked for only where it spent
     /// nothing.
-    pub fn raise_spent(&mut self, alloc: Global, node: u8, spent: u64) -> Result<(), AllocError>
+    pub fn raise_spent(&mut self, node: u8, spent: u64) -> Result<(), AllocError>
         ensures ok { OnOk result
             (WritesSpent self.old self.new node (max (spent_cell self.old node) spent)) }
         ensures err { OnErr result (self.new ≡ self.old) }
         ensures absent { OnErr result (spent_cell self.old node ≡ 0) }
     {
-        raise(&mut self.shares.first, alloc, node, spent)
+        raise(&mut self.shares.first, node, spent)
     }
 
     /// Raises what a node moved to another, or granted where both are one, to at least this total.
@@ -315,7 +308,7 @@ impl Budget {
 impl Join for Budget {
     ghost use Rattle.std.specs.Ordering.{nat_cmp};
     ghost use Rattle.lattice_laws.specs.Map.{map_order};
-    ghost use Rattle.lattice_laws.specs.Max.{max_order};
+    ghost use Rattle.lattice_laws.specs.Numbers.{numbers_order};
     ghost use Rattle.lattice_laws.specs.Pair.{pair_order};
 
     ghost admitted = { ⟦<SpentAndMoved as Join>⟧.admitted };
@@ -324,8 +317,7 @@ impl Join for Budget {
 
     ghost bottom = { ⟦<SpentAndMoved as Join>⟧.bottom };
 
-    ghost laws = { pair_order (map_order nat_cmp max_order)
-        (map_order nat_cmp (map_order nat_cmp max_order)) };
+    ghost laws = { pair_order numbers_order (map_order nat_cmp numbers_order) };
 
     fn joined(&self, alloc: Global, other: &Self) -> Result<Self, AllocError> {
         let shares = self.shares.joined(alloc, &other.shares)?;

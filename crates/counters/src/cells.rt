@@ -1,18 +1,18 @@
 //! Numbers by node, 0 where there is none, and rows of them.
 
 ghost use Rattle.std.specs.Prelude.{◌≡◌, ◌≤◌, ◌+◌, ◌*◌, ◌^◌, ◌==◌, if◌then◌else◌, pos, ◌-ℤ◌};
-ghost use Rattle.std.specs.Prelude.{length, map, max, Some, None, IfOk, IfErr, OnOk, OnErr};
+ghost use Rattle.std.specs.Prelude.{length, map, max, None, IfOk, IfErr, OnOk, OnErr};
 ghost use Rattle.std.specs.List.{range_with_len};
 ghost use Rattle.counters.specs.Sums.{node_numbers, sum_below, sum_others, AddsEach, AreWithin};
 ghost use Rattle.counters.specs.Cells.{cell, row_cell, came_to, went_from, WritesCell, WritesRowCell};
-ghost use Rattle.counters.specs.Refusals.{hit_refusal, too_great, IsRefusal};
+ghost use Rattle.counters.specs.Refusals.{hit_refusal, IsRefusal};
 
 use crate::fault::CounterFault;
-use lattice_laws::{MapOf, Max};
+use lattice_laws::{MapOf, Numbers};
 use std::alloc::{AllocError, Global};
 
 /// A number for each node.
-pub(crate) type Cells = MapOf<u8, Max>;
+pub(crate) type Cells = Numbers;
 
 /// For each node a number for each node.
 pub(crate) type Rows = MapOf<u8, Cells>;
@@ -22,10 +22,7 @@ pub(crate) type Rows = MapOf<u8, Cells>;
 pub(crate) fn number_of(cells: &Cells, node: u8) -> u64
     ensures { result ≡ cell cells.now node }
 {
-    match cells.get(&node) {
-        Some(number) => number.0,
-        None => 0,
-    }
+    cells.at(node)
 }
 
 /// The number in a row at a node.
@@ -39,15 +36,22 @@ pub(crate) fn number_in_row(rows: &Rows, from: u8, to: u8) -> u64
     }
 }
 
+// The number at a place, 0 where no node has it.
+#[tactic(auto, unfolding(crate::specs::Cells::cell))]
+fn number_at(cells: &Cells, place: usize) -> u64
+    ensures { result ≡ cell cells.now place }
+{
+    cells.as_slice().get(place).copied().unwrap_or(0)
+}
+
 /// All numbers together.
 pub(crate) fn total(cells: &Cells) -> u128
-    ensures { result ≡ sum_below node_numbers (cell cells.now) }
+    ensures value { result ≡ sum_below node_numbers (cell cells.now) }
+    ensures small { result ≤ 256 * 2 ^ 64 }
 {
     let mut sum = 0u128;
-    for (node, number) in cells.iter() {
-        // That it is a node's number is known of what is read.
-        let _node = *node;
-        sum += u128::from(number.0);
+    for number in cells.as_slice() {
+        sum += u128::from(*number);
     }
     sum
 }
@@ -57,13 +61,7 @@ pub(crate) fn total_of_others(cells: &Cells, node: u8) -> u128
     ensures value { result ≡ sum_others node_numbers node (cell cells.now) }
     ensures small { result ≤ 256 * 2 ^ 64 }
 {
-    let mut sum = 0u128;
-    for (other, number) in cells.iter() {
-        if *other != node {
-            sum += u128::from(number.0);
-        }
-    }
-    sum
+    total(cells) - u128::from(number_of(cells, node))
 }
 
 /// What a node's row has at the other nodes, together.
@@ -107,43 +105,31 @@ pub(crate) fn write_numbers(cells: &Cells, numbers: &mut [u64])
     ensures { numbers.new ≡ map (cell cells.now) (range_with_len 0 (length numbers.old)) }
 {
     numbers.fill(0);
-    for (node, number) in cells.iter() {
-        let place = usize::from(*node);
-        if place < numbers.len() {
-            numbers[place] += number.0;
-        }
+    for place in 0..numbers.len().min(cells.as_slice().len()) {
+        numbers[place] = number_at(cells, place);
     }
 }
 
-// Adds each node's number to the sum at its place, and answers all numbers together.
-fn add_numbers(cells: &Cells, sums: &mut [i128]) -> u128
-    requires { AreWithin (2 ^ 100) sums.old }
-    ensures value { result ≡ sum_below node_numbers (cell cells.now) }
-    ensures small { result ≤ 256 * 2 ^ 64 }
-    ensures sums { AddsEach (λ place. pos (cell cells.now place)) sums.old sums.new }
+/// Writes how much less than 0 the number of each node is that there is a place for.
+pub(crate) fn write_negated(cells: &Cells, sums: &mut [i128])
+    ensures sums { sums.new ≡ map (λ node. pos 0 -ℤ pos (cell cells.now node))
+        (range_with_len 0 (length sums.old)) }
+    ensures small { AreWithin (2 ^ 99) sums.new }
 {
-    let mut all = 0u128;
-    for (node, number) in cells.iter() {
-        let place = usize::from(*node);
-        all += u128::from(number.0);
-        if place < sums.len() {
-            sums[place] += i128::from(number.0);
-        }
+    sums.fill(0);
+    for place in 0..sums.len().min(cells.as_slice().len()) {
+        sums[place] = -i128::from(number_at(cells, place));
     }
-    all
 }
 
-/// Takes each node's number from the sum at its place.
-pub(crate) fn subtract_numbers(cells: &Cells, sums: &mut [i128])
+// Adds each node's number to the sum at its place.
+fn add_numbers(cells: &Cells, sums: &mut [i128])
     requires { AreWithin (2 ^ 100) sums.old }
-    ensures sums { AddsEach (λ place. pos 0 -ℤ pos (cell cells.now place)) sums.old sums.new }
+    ensures sums { AddsEach (λ place. pos (cell cells.now place)) sums.old sums.new }
     ensures small { AreWithin (2 ^ 101) sums.new }
 {
-    for (node, number) in cells.iter() {
-        let place = usize::from(*node);
-        if place < sums.len() {
-            sums[place] -= i128::from(number.0);
-        }
+    for place in 0..sums.len().min(cells.as_slice().len()) {
+        sums[place] += i128::from(number_at(cells, place));
     }
 }
 
@@ -155,11 +141,10 @@ fn add_row(row: &Cells, node: u8, sums: &mut [i128])
         -ℤ pos (if place == node then sum_others node_numbers node (cell row.now) else 0))
         sums.old sums.new }
 {
-    let all = add_numbers(row, sums);
+    add_numbers(row, sums);
     let place = usize::from(node);
     if place < sums.len() {
-        let own = u128::from(number_of(row, node));
-        sums[place] -= (all - own) as i128;
+        sums[place] -= total_of_others(row, node) as i128;
     }
 }
 
@@ -176,59 +161,37 @@ pub(crate) fn add_rows(rows: &Rows, sums: &mut [i128])
     }
 }
 
-/// Raises a node's number to at least this one, in place where there is one. Memory is asked for
-/// only where there is none.
-pub(crate) fn raise(
-    cells: &mut Cells,
-    alloc: Global,
-    node: u8,
-    number: u64,
-) -> Result<(), AllocError>
+/// Raises a node's number to at least this one. Memory is asked for only where it is 0.
+pub(crate) fn raise(cells: &mut Cells, node: u8, number: u64) -> Result<(), AllocError>
     ensures ok { OnOk result
         (WritesCell cells.old cells.new node (max (cell cells.old node) number)) }
     ensures err { OnErr result (cells.new ≡ cells.old) }
     ensures absent { OnErr result (cell cells.old node ≡ 0) }
 {
-    match cells.change(&node, |held| held.0 = held.0.max(number)) {
-        Some(()) => Ok(()),
-        None => cells.raise(alloc, node, Max(number)),
+    if number <= number_of(cells, node) {
+        return Ok(());
     }
+    cells.put(node, number)
 }
 
-// One more, and the answer is how many there then are.
-fn add_one(number: &mut Max) -> Result<u64, CounterFault>
-    ensures ok { OnOk result (too_great (number.old.0 + 1) ≡ None) }
-    ensures answer { IfOk result (λ more. (more ≡ number.old.0 + 1) × (number.new.0 ≡ more)) }
-    ensures full { IfErr result (λ fault. too_great (number.old.0 + 1) ≡ Some fault) }
-    ensures err { OnErr result (number.new ≡ number.old) }
-{
-    let Some(more) = number.0.checked_add(1) else {
-        return Err(CounterFault::CellFull);
-    };
-    number.0 = more;
-    Ok(more)
-}
-
-/// Counts one more at a node, in place where it has a number, and answers how many it now has. It
-/// is refused where there are 2^64 - 1, and where there is none and memory is refused.
-pub(crate) fn count(cells: &mut Cells, alloc: Global, node: u8) -> Result<u64, CounterFault>
+/// Counts one more at a node, and answers how many it now has. It is refused where there are
+/// 2^64 - 1, and where there is none and memory is refused.
+pub(crate) fn count(cells: &mut Cells, node: u8) -> Result<u64, CounterFault>
     ensures ok { OnOk result (hit_refusal cells.old node ≡ None) }
     ensures answer { IfOk result (λ more. more ≡ cell cells.old node + 1) }
     ensures after { IfOk result (WritesCell cells.old cells.new node) }
     ensures refused { IfErr result (IsRefusal (hit_refusal cells.old node) (cell cells.old node)) }
     ensures err { OnErr result (cells.new ≡ cells.old) }
 {
-    match cells.change(&node, |number| add_one(number)) {
-        Some(counted) => counted,
-        None => {
-            cells.raise(alloc, node, Max(1))?;
-            Ok(1)
-        }
-    }
+    let Some(more) = number_of(cells, node).checked_add(1) else {
+        return Err(CounterFault::CellFull);
+    };
+    cells.put(node, more)?;
+    Ok(more)
 }
 
-/// Raises the number in a row at a node to at least this one, in place where there is one. Memory
-/// is asked for only where there is none.
+/// Raises the number in a row at a node to at least this one, in place where there is a row. Memory
+/// is asked for only where it is 0.
 pub(crate) fn raise_row(
     rows: &mut Rows,
     alloc: Global,
@@ -241,11 +204,11 @@ pub(crate) fn raise_row(
     ensures err { OnErr result (rows.new ≡ rows.old) }
     ensures absent { OnErr result (row_cell rows.old from to ≡ 0) }
 {
-    match rows.change(&from, |row| raise(row, alloc, to, number)) {
+    match rows.change(&from, |row| raise(row, to, number)) {
         Some(raised) => raised,
         None => {
-            let mut row = MapOf::new(alloc);
-            raise(&mut row, alloc, to, number)?;
+            let mut row = Cells::new(alloc);
+            raise(&mut row, to, number)?;
             rows.raise(alloc, from, row)
         }
     }

@@ -8,7 +8,7 @@ ghost use Rattle.counters.specs.Refusals.{hit_refusal, IsRefusal};
 
 use crate::cells::{Cells, count, number_of, raise, total, write_numbers};
 use crate::fault::CounterFault;
-use lattice_laws::{Join, MapOf};
+use lattice_laws::Join;
 use std::alloc::{AllocError, Global};
 use std::marker::Model;
 
@@ -21,9 +21,8 @@ pub struct HitCounter {
 
 impl Model for HitCounter {
     ghost use Rattle.std.specs.Prelude.{List, ℕ};
-    ghost use Rattle.lattice_laws.specs.declared.max.Max.{Max};
 
-    ghost Value = { List (ℕ × Max) };
+    ghost Value = { List ℕ };
 
     ghost view = { λ counter. counter.hits };
 }
@@ -34,7 +33,7 @@ impl HitCounter {
         ensures { result ≡ [] }
     {
         HitCounter {
-            hits: MapOf::new(alloc),
+            hits: Cells::new(alloc),
         }
     }
 
@@ -61,7 +60,7 @@ impl HitCounter {
 
     /// Counts a hit of a node, and answers how many it now has. It is refused where the node has
     /// 2^64 - 1 (`CellFull`), and where it has none and memory is refused (`OutOfMemory`).
-    pub fn hit(&mut self, alloc: Global, node: u8) -> Result<u64, CounterFault>
+    pub fn hit(&mut self, node: u8) -> Result<u64, CounterFault>
         ensures ok { OnOk result (hit_refusal self.old node ≡ None) }
         ensures answer { IfOk result (λ hits. hits ≡ cell self.old node + 1) }
         ensures after { IfOk result (WritesCell self.old self.new node) }
@@ -69,24 +68,22 @@ impl HitCounter {
             (IsRefusal (hit_refusal self.old node) (cell self.old node)) }
         ensures err { OnErr result (self.new ≡ self.old) }
     {
-        count(&mut self.hits, alloc, node)
+        count(&mut self.hits, node)
     }
 
     /// Raises the hits of a node to at least `hits`. Memory is asked for only where it has none.
-    pub fn raise(&mut self, alloc: Global, node: u8, hits: u64) -> Result<(), AllocError>
+    pub fn raise(&mut self, node: u8, hits: u64) -> Result<(), AllocError>
         ensures ok { OnOk result
             (WritesCell self.old self.new node (max (cell self.old node) hits)) }
         ensures err { OnErr result (self.new ≡ self.old) }
         ensures absent { OnErr result (cell self.old node ≡ 0) }
     {
-        raise(&mut self.hits, alloc, node, hits)
+        raise(&mut self.hits, node, hits)
     }
 }
 
 impl Join for HitCounter {
-    ghost use Rattle.std.specs.Ordering.{nat_cmp};
-    ghost use Rattle.lattice_laws.specs.Map.{map_order};
-    ghost use Rattle.lattice_laws.specs.Max.{max_order};
+    ghost use Rattle.lattice_laws.specs.Numbers.{numbers_order};
 
     ghost admitted = { ⟦<Cells as Join>⟧.admitted };
 
@@ -94,7 +91,7 @@ impl Join for HitCounter {
 
     ghost bottom = { ⟦<Cells as Join>⟧.bottom };
 
-    ghost laws = { map_order nat_cmp max_order };
+    ghost laws = { numbers_order };
 
     fn joined(&self, alloc: Global, other: &Self) -> Result<Self, AllocError> {
         let hits = self.hits.joined(alloc, &other.hits)?;

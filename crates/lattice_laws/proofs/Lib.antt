@@ -6,3 +6,4 @@ pub mod Turns
 pub mod Takings
 pub mod Parts
 pub mod Bounds
+pub mod NumberJoins

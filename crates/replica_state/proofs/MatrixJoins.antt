@@ -12,11 +12,12 @@ use Rattle.std.specs.declared.cmp.Ordering.TheVariants.{Less, Equal, Greater}
 use Rattle.lattice_laws.specs.Order.{IsCopy, IsJoin, Same}
 use Rattle.lattice_laws.specs.Lex.{lex_order}
 use Rattle.lattice_laws.specs.Map.{MapOrder, admitted_at, stored_at, map_order}
-use Rattle.lattice_laws.specs.Max.{max_order}
+use Rattle.lattice_laws.specs.Numbers.{numbers_order}
 use Rattle.lattice_laws.specs.Pair.{AreBoth, PairOrder, pair_of}
-use Rattle.lattice_laws.proofs.Bounds.{HaveBounds, max_bounds, pair_bounds, map_bounds}
+use Rattle.lattice_laws.proofs.Bounds.{HaveBounds, pair_bounds, map_bounds}
 use Rattle.lattice_laws.proofs.Entries.{found_may_be_stored}
 use Rattle.lattice_laws.proofs.LexJoins.{lex_less, lex_greater}
+use Rattle.lattice_laws.proofs.NumberJoins.{numbers_bottom, numbers_bounds}
 use Rattle.lattice_laws.proofs.Parts.{join_at, join_first, join_second, lex_join_equal, is_empty}
 use Rattle.counters.specs.Cells.{Cells, Shares, no_shares}
 use Rattle.counters.proofs.CounterJoins.{cells_join, shares_join}
@@ -68,13 +69,13 @@ first_same f g same = (ap (λ (h : Held). h.key) held, numbers)
 
 -- it can be told whether a budget or a slot is the bottom
 cells_bottom : (cells : Cells) → are_cells cells → cells_order cells [] ⊎ (cells_order cells [] → ⊥)
-cells_bottom = is_empty nat_cmp_total max_order
+cells_bottom cells h = numbers_bottom cells
 
 share_bottom : (shares : Shares) → are_shares shares → shares_order shares no_shares ⊎
     (shares_order shares no_shares → ⊥)
 share_bottom shares h = ⊎_elim
     (λ low. ⊎_elim (λ moved. inl (low, moved)) (λ not. inr (λ below. not below.1))
-    (is_empty nat_cmp_total (map_order nat_cmp max_order) shares.second h.1))
+    (is_empty nat_cmp_total numbers_order shares.second h.1))
     (λ not. inr (λ below. not below.0))
     (cells_bottom shares.first h.0)
 
@@ -125,11 +126,8 @@ is_second f g r same e =
 
 -- two maps of budgets have one above both
 budgets_bounds : HaveBounds are_budgets budgets_order
-budgets_bounds = map_bounds nat_cmp_total shares_laws (pair_bounds cells_bounds
-    (map_bounds nat_cmp_total (map_order nat_cmp max_order) cells_bounds))
-  where
-    cells_bounds : HaveBounds are_cells cells_order
-    cells_bounds = map_bounds nat_cmp_total max_order max_bounds
+budgets_bounds = map_bounds nat_cmp_total shares_laws (pair_bounds numbers_bounds
+    (map_bounds nat_cmp_total numbers_order numbers_bounds))
 
 first_joined : (f g r : First) → IsJoin are_firsts first_order f g r → FirstJoined f g r
 first_joined None None r join =

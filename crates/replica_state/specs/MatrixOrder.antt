@@ -7,7 +7,7 @@ use Rattle.std.specs.declared.cmp.Ordering.{Ordering}
 use Rattle.lattice_laws.specs.Order.{IsJoinOrder, order_through}
 use Rattle.lattice_laws.specs.Lex.{HoldsOnly, LexOrder, lex_order}
 use Rattle.lattice_laws.specs.Map.{IsMap, MapOrder, map_order}
-use Rattle.lattice_laws.specs.Max.{IsNumber, IsAtMost, zero_max, max_order}
+use Rattle.lattice_laws.specs.Numbers.{AreNumbers, NoneGreater, numbers_order}
 use Rattle.lattice_laws.specs.Pair.{AreBoth, PairOrder, pair_order}
 use Rattle.counters.specs.Cells.{Cells, Shares, cell, no_shares}
 use Rattle.stamp_register.specs.declared.key.Key.{Key}
@@ -20,10 +20,10 @@ use Rattle.replica_state.specs.declared.slot.Slot.{Slot}
 use Rattle.replica_state.specs.Slots.{Budgets, no_slot, shown_slots}
 
 abbrev pub cells_order : Cells → Cells → Type 0
-cells_order = MapOrder nat_cmp IsAtMost zero_max
+cells_order = NoneGreater
 
 abbrev pub are_cells : Cells → Type 0
-are_cells = IsMap nat_cmp IsNumber IsAtMost zero_max
+are_cells = AreNumbers
 
 abbrev pub shares_order : Shares → Shares → Type 0
 shares_order = PairOrder cells_order (MapOrder nat_cmp cells_order [])
@@ -32,7 +32,7 @@ abbrev pub are_shares : Shares → Type 0
 are_shares = AreBoth are_cells (IsMap nat_cmp are_cells cells_order [])
 
 pub shares_laws : IsJoinOrder are_shares shares_order no_shares
-shares_laws = pair_order (map_order nat_cmp max_order) (map_order nat_cmp (map_order nat_cmp max_order))
+shares_laws = pair_order numbers_order (map_order nat_cmp numbers_order)
 
 abbrev pub budgets_order : Budgets → Budgets → Type 0
 budgets_order = MapOrder nat_cmp shares_order no_shares
@@ -61,7 +61,7 @@ are_slots slot = AreBoth are_firsts are_cells slot.parts
 
 pub slots_laws : IsJoinOrder are_slots slots_order no_slot
 slots_laws = order_through (λ (slot : Slot). slot.parts) no_slot
-    (pair_order (lex_order (key_laws.lawful).total (map_order nat_cmp shares_laws)) (map_order nat_cmp max_order))
+    (pair_order (lex_order (key_laws.lawful).total (map_order nat_cmp shares_laws)) numbers_order)
 
 -- slots of names
 abbrev pub slots_map : List (List ℕ × Slot) → Type 0

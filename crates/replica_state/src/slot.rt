@@ -291,7 +291,7 @@ fn raise_share(budget: &mut Budget, alloc: Global, count: Count) -> Result<(), A
 {
     match count.counted {
         Counted::Hits { .. } => Ok(()),
-        Counted::Execs { node, .. } => budget.raise_spent(alloc, node, count.number),
+        Counted::Execs { node, .. } => budget.raise_spent(node, count.number),
         Counted::Shifts { from, to, .. } => budget.raise_moved(alloc, from, to, count.number),
     }
 }
@@ -328,7 +328,7 @@ fn raise(slot: &mut Slot, alloc: Global, count: Count) -> Result<(), AllocError>
     ensures absent { OnErr result (slot_number slot.old count.counted ≡ 0) }
 {
     let term = match count.counted {
-        Counted::Hits { node } => return slot.parts.second.raise(alloc, node, count.number),
+        Counted::Hits { node } => return slot.parts.second.raise(node, count.number),
         Counted::Execs { term, .. } => term,
         Counted::Shifts { term, .. } => term,
     };
@@ -399,12 +399,12 @@ pub(crate) fn learn(
 
 // Counts an execution of a budget's own term at a node.
 #[inline(always)]
-fn execute_share(budget: &mut Budget, alloc: Global, node: u8) -> Result<(), AllocError>
+fn execute_share(budget: &mut Budget, node: u8) -> Result<(), AllocError>
     ensures ok { OnOk result
         (WritesSpent budget.old budget.new node (spent_cell budget.old node + 1)) }
     ensures err { OnErr result (budget.new ≡ budget.old) }
 {
-    match budget.count_spent(alloc, node) {
+    match budget.count_spent(node) {
         Ok(_) => Ok(()),
         Err(_) => Err(AllocError),
     }
@@ -420,11 +420,11 @@ fn execute_term(budgets: &mut Budgets, alloc: Global, term: u8, node: u8) -> Res
         }))) }
     ensures err { OnErr result (budgets.new ≡ budgets.old) }
 {
-    match budgets.change(&term, |budget| execute_share(budget, alloc, node)) {
+    match budgets.change(&term, |budget| execute_share(budget, node)) {
         Some(executed) => executed,
         None => {
             let mut budget = Budget::new(alloc);
-            execute_share(&mut budget, alloc, node)?;
+            execute_share(&mut budget, node)?;
             budgets.raise(alloc, term, budget)
         }
     }
@@ -454,7 +454,7 @@ fn execute(slot: &mut Slot, alloc: Global, term: u8, node: u8) -> Result<(), All
 
 // Counts a hit at a node.
 #[inline(always)]
-fn hit(slot: &mut Slot, alloc: Global, node: u8) -> Result<(), AllocError>
+fn hit(slot: &mut Slot, node: u8) -> Result<(), AllocError>
     requires { slot_number slot.old (Hits node) + 1 < 2 ^ 64 }
     ensures key { slot_key slot.new ≡ slot_key slot.old }
     ensures ok { OnOk result (Raises (slot_number slot.old) (slot_number slot.new)
@@ -462,7 +462,7 @@ fn hit(slot: &mut Slot, alloc: Global, node: u8) -> Result<(), AllocError>
     ensures err { OnErr result (slot_held slot.new ≡ slot_held slot.old) }
     ensures absent { OnErr result (slot_number slot.old (Hits node) ≡ 0) }
 {
-    match slot.parts.second.hit(alloc, node) {
+    match slot.parts.second.hit(node) {
         Ok(_) => Ok(()),
         Err(_) => Err(AllocError),
     }
@@ -484,18 +484,18 @@ pub(crate) fn pass(
     ensures err { OnErr result (slot_held slot.new ≡ slot_held slot.old) }
 {
     let Some(term) = spent else {
-        return hit(slot, alloc, node);
+        return hit(slot, node);
     };
     if slot.parts.second.of(node) == 0 {
         // The hit takes memory, as perhaps the execution does: so it is counted aside first.
         let mut counter = slot.parts.second.copied(alloc)?;
-        counter.raise(alloc, node, 1)?;
+        counter.raise(node, 1)?;
         execute(slot, alloc, term, node)?;
         slot.parts.second = counter;
         return Ok(());
     }
     execute(slot, alloc, term, node)?;
-    hit(slot, alloc, node)
+    hit(slot, node)
 }
 
 /// Counts so much under the key that is held, which isn't looked at.

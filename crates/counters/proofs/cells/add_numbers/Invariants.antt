@@ -1,16 +1,6 @@
-use Rattle.std.proofs.Common.{◌≡◌, ◌+◌, ◌<◌, ◌≤◌, ℕ, length, get_or, pos, ◌+ℤ◌}
-use Rattle.counters.specs.Sums.{node_numbers, sum_below}
 use Rattle.counters.specs.Cells.{cell}
-use Rattle.counters.proofs.CellLemmas.{AreApart}
+use Rattle.counters.proofs.Columns.{AddedBelow}
 use Rattle.counters.proofs.cells.add_numbers.Given as goal
 
-abbrev pub invariant-loop-node : goal.invariant-loop-node
-invariant-loop-node l =
-    record {
-      apart : AreApart l.node-iterator;
-      less : (i : ℕ) → cell l.node-iterator i ≤ cell l.cells i;
-      all : l.all + sum_below node_numbers (cell l.node-iterator) ≡ sum_below node_numbers (cell l.cells);
-      len : length l.sums ≡ length l.initial.sums;
-      sums : (i : ℕ) → i < length l.sums → get_or l.sums i (pos 0) +ℤ pos (cell l.node-iterator i)
-          ≡ get_or l.initial.sums i (pos 0) +ℤ pos (cell l.cells i);
-    }
+abbrev pub invariant-loop-place : goal.invariant-loop-place
+invariant-loop-place l = AddedBelow (cell l.cells) l.initial.sums l.sums l.place

@@ -1,24 +1,19 @@
 use Rattle.std.specs.Prelude.{◌≡◌, max}
-use Rattle.std.proofs.Common.{◌∙◌, ap, rules, sym}
-use Rattle.counters.proofs.WriteLemmas.{OnErr-always, OnOk-map, absent_cell, found_cell, put_cell, raised_cell}
+use Rattle.std.proofs.Common.{arith, subst}
+use Rattle.counters.specs.Cells.{WritesCell, cell}
+use Rattle.counters.proofs.CellLemmas.{cell-past}
+use Rattle.counters.proofs.WriteLemmas.{OnErr-map, OnOk-map, kept_cell, wrote_cell}
 use Rattle.counters.proofs.cells.raise.Goals as goal
 
-pub returns-in-Some-clause-ok : goal.returns-in-Some-clause-ok
-returns-in-Some-clause-ok c =
-    let changed = c.in-Some.ensures.changed in
-    let called = changed.called in
-    let met = called.met in
-    let leaves = called.leaves in
-    let raised : changed.left.0 ≡ max changed.held.0 c.args.number = search rules in
-    let was = found_cell c.args.cells.now c.args.node changed.held changed.found in
-    put_cell c.args.cells.now c.change.new.self c.args.node _ changed.left
-    (raised ∙ ap (λ n. max n c.args.number) (sym was)) changed.put
+pub returns-then-number-number_of-clause-ok : goal.returns-then-number-number_of-clause-ok
+returns-then-number-number_of-clause-ok c = kept_cell c.args.cells.now c.args.node c.args.number (omega arith)
 
-pub returns-in-None-clause-ok : goal.returns-in-None-clause-ok
-returns-in-None-clause-ok c =
-    OnOk-map _ _ c.raise.result (raised_cell c.args.cells.now c.raise.new.self c.args.node c.args.number)
-    (let same : c.change.new.self ≡ c.args.cells.now = c.in-None.ensures.absent in rw same at c.raise.ensures.ok)
+pub returns-clause-ok : goal.returns-clause-ok
+returns-clause-ok c =
+    let old = c.args.cells.now in
+    let greater : c.args.number ≡ max (cell old c.args.node) c.args.number = omega arith in
+    OnOk-map _ _ c.put.result
+    (λ wrote. subst (WritesCell old c.put.new.self c.args.node) greater (wrote_cell _ _ _ _ wrote)) c.put.ensures.ok
 
-pub returns-in-None-clause-absent : goal.returns-in-None-clause-absent
-returns-in-None-clause-absent c = OnErr-always _ c.raise.result
-    (absent_cell c.args.cells.now c.args.node c.in-None.ensures.found.1)
+pub returns-clause-absent : goal.returns-clause-absent
+returns-clause-absent c = OnErr-map _ _ c.put.result (cell-past c.args.cells.now c.args.node) c.put.ensures.beyond

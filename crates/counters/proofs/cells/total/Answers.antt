@@ -1,39 +1,43 @@
-use Rattle.std.specs.Prelude.{◌≡◌, ◌<◌, ◌≤◌, ◌+◌, ◌*◌, ◌^◌, []}
-use Rattle.std.proofs.Common.{arith, rules}
-use Rattle.counters.specs.Sums.{node_numbers, sum_below}
+use Rattle.std.specs.Prelude.{◌≡◌, ◌<◌, ◌+◌, ◌^◌, length, slice_index}
+use Rattle.std.proofs.Common.{ap, arith, rules, sym, ◌∙◌}
+use Rattle.counters.specs.Sums.{sum_below}
 use Rattle.counters.specs.Cells.{cell}
-use Rattle.counters.proofs.CellLemmas.{apart-map, apart-tail, total-bound, total-empty, total-entry}
+use Rattle.counters.proofs.CellLemmas.{cell-read, total-below, total-kept}
+use Rattle.counters.proofs.SumLemmas.{sum-next}
 use Rattle.counters.proofs.cells.total.Goals as goal
 
-pub loop-node-init : goal.loop-node-init
-loop-node-init c =
-    let all : c.into_iter-node-iterator.result ≡ c.args.cells.now = cc in
-    rw all (record { apart = apart-map c.args.cells.now c.iter-node-items.ensures.is_map.ordered; sum = omega arith })
-
--- the numbers so far are a part of all, which fit
+-- the numbers so far are few enough to fit
 pub overflow_add-sum : goal.overflow_add-sum
 overflow_add-sum c =
-    let below : c.in-Some.node.now < 256 = omega arith in
-    let before = rw c.in-Some.ensures.steps at c.loop-node.invariant in
-    let entry = total-entry c.in-Some.node.now c.in-Some.number.now c.next.new.self below before.apart in
-    let all : sum_below node_numbers (cell c.args.cells.now) ≤ 256 * 2 ^ 64 =
-    total-bound c.args.cells.now c.iter-node-items.ensures.is_map in
-    let fits : c.loop-node.sum + c.from-sum.result < 2 ^ 128 =
-    omega (arith, before.sum, entry, all, c.from-sum.ensures) in
+    let few = total-below c.args.cells.now c.as_slice-number-items.ensures.numbers c.loop-number.number-index
+    (omega (arith, c.as_slice-number-items.ensures.numbers.few, ap length c.as_slice-number-items.ensures.kept)) in
+    let fits : c.loop-number.sum + c.from-sum.result < 2 ^ 128 = omega (arith, few, c.loop-number.invariant) in
     omega arith
 
-pub loop-node-preserved : goal.loop-node-preserved
-loop-node-preserved c =
-    let below : c.in-Some.node.now < 256 = omega arith in
-    let before = rw c.in-Some.ensures.steps at c.loop-node.invariant in
-    let entry = total-entry c.in-Some.node.now c.in-Some.number.now c.next.new.self below before.apart in
-    record {
-      apart = apart-tail c.in-Some.node.now c.in-Some.number.now c.next.new.self before.apart;
-      sum = omega (arith, before.sum, entry, c.from-sum.ensures);
-    }
+pub loop-number-preserved : goal.loop-number-preserved
+loop-number-preserved c =
+    let cells = c.args.cells.now in
+    let index = c.loop-number.number-index in
+    let read : c.from-sum.result ≡ slice_index c.as_slice-number-items.result.now index = search rules in
+    let here : c.from-sum.result ≡ cell cells index =
+    read ∙ ap (λ xs. slice_index xs index) c.as_slice-number-items.ensures.kept ∙ cell-read cells index in
+    let next = sum-next index (cell cells) in
+    omega (arith, here, next, c.loop-number.invariant)
 
-pub returns : goal.returns
-returns c =
-    let none : c.loop-node.node-iterator ≡ [] = search rules in
-    let before = rw none at c.loop-node.invariant in
-    omega (arith, before.sum, total-empty)
+pub returns-clause-value : goal.returns-clause-value
+returns-clause-value c =
+    let kept = total-kept c.args.cells.now c.as_slice-number-items.ensures.numbers in
+    let end : c.loop-number.number-index ≡ length c.args.cells.now =
+    omega (
+      arith,
+      c.loop-number-test.false,
+      c.loop-number.auto.number-index-end,
+      ap length c.as_slice-number-items.ensures.kept,
+    ) in
+    c.loop-number.invariant ∙ ap (λ n. sum_below n (cell c.args.cells.now)) end ∙ sym kept
+
+pub returns-clause-small : goal.returns-clause-small
+returns-clause-small c =
+    let few = total-below c.args.cells.now c.as_slice-number-items.ensures.numbers c.loop-number.number-index
+    (omega (arith, c.as_slice-number-items.ensures.numbers.few, ap length c.as_slice-number-items.ensures.kept)) in
+    omega (arith, few, c.loop-number.invariant)

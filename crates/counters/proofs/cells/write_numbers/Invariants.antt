@@ -1,12 +1,11 @@
-use Rattle.std.proofs.Common.{◌≡◌, ◌+◌, ◌<◌, ℕ, length, get_or}
+use Rattle.std.proofs.Common.{◌≡◌, ◌<◌, ◌≤◌, ℕ, length, get_or}
 use Rattle.counters.specs.Cells.{cell}
-use Rattle.counters.proofs.CellLemmas.{AreApart}
 use Rattle.counters.proofs.cells.write_numbers.Given as goal
 
-abbrev pub invariant-loop-node : goal.invariant-loop-node
-invariant-loop-node l =
+abbrev pub invariant-loop-place : goal.invariant-loop-place
+invariant-loop-place l =
     record {
-      apart : AreApart l.node-iterator;
       len : length l.numbers ≡ length l.initial.numbers;
-      sums : (i : ℕ) → i < length l.numbers → get_or l.numbers i 0 + cell l.node-iterator i ≡ cell l.cells i;
+      read : (i : ℕ) → i < l.place → get_or l.numbers i 0 ≡ cell l.cells i;
+      left : (i : ℕ) → l.place ≤ i → i < length l.numbers → get_or l.numbers i 0 ≡ 0;
     }
