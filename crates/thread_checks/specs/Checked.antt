@@ -8,7 +8,7 @@ use Rattle.thread_plans.specs.declared.plan.RoundKind.{RoundKind}
 use Rattle.thread_plans.specs.declared.plan.RoundKind.TheVariants as kinds
 use Rattle.thread_plans.specs.declared.plan.Rounds.{Rounds}
 use Rattle.thread_plans.specs.Plans.{PlanValue, plan_in}
-use Rattle.thread_scripts.specs.Calls.{FaultList}
+use Rattle.thread_scripts.specs.Calls.{RunFaults}
 use Rattle.thread_scripts.specs.Outputs.{IsJudged}
 use Rattle.thread_scripts.specs.Plays.{AreListsOf, AreTracesOf}
 use Rattle.thread_scripts.specs.Warnings.{warned_text}
@@ -55,11 +55,11 @@ abbrev pub plan_with : List ℕ → PlanValue → PlanValue
 plan_with script plan =
     with_rounds plan (rounds_asked (codes "first") script) (kind_by (rounds_asked (codes "share") script))
 
--- What is said of the lines that fail, where calls of workers were refused so and waits in these lines were in vain, by
+-- What is said of the lines that fail, where calls were refused so and waits in these lines were in vain, by
 -- what was printed and whether the audit says yes: of those before the workers as of a script of calls that is checked;
 -- of the workers what a run is warned of; and of waits, of lines that expect what is printed, and of places. Nothing,
 -- where none fails.
-abbrev pub failed_text : List ℕ → PlanValue → Lists → FaultList → List ℕ → List ℕ → Bool → List ℕ
+abbrev pub failed_text : List ℕ → PlanValue → Lists → RunFaults → List ℕ → List ℕ → Bool → List ℕ
 failed_text script plan lists faults vain printed explained =
     checked_text (view_of views.Starts script)
     ++ (warned_text (view_of views.Workers script) (without_starts plan) lists faults explained
@@ -69,9 +69,9 @@ failed_text script plan lists faults vain printed explained =
 abbrev pub IsSizeOf : List ℕ → ℕ → ℕ → Type 0
 IsSizeOf script nodes cap = IfOk (plan_in (plain_text script)) (λ plan. (plan.nodes ≡ nodes) × (plan.cap ≡ cap))
 
--- the run of a script that is checked came to these traces and receipts, refused calls of workers so, prints this, and
+-- the run of a script that is checked came to these traces and receipts, refused calls so, prints this, and
 -- this is said of it
-pub record IsChecked (script : List ℕ) (traces : Traces) (lists : Lists) (faults : FaultList) (text said : List ℕ)
+pub record IsChecked (script : List ℕ) (traces : Traces) (lists : Lists) (faults : RunFaults) (text said : List ℕ)
     : Type 0 where
   pub plan : PlanValue
   pub vain : List ℕ
@@ -85,5 +85,5 @@ pub record IsChecked (script : List ℕ) (traces : Traces) (lists : Lists) (faul
 -- this is so of what it prints, and this of what is said of it
 abbrev pub ChecksSaying : List ℕ → (List ℕ → Type 0) → (List ℕ → Type 0) → Type 0
 ChecksSaying script written told =
-    (traces : Traces) × (lists : Lists) × (faults : FaultList) × (text : List ℕ) × (said : List ℕ)
+    (traces : Traces) × (lists : Lists) × (faults : RunFaults) × (text : List ℕ) × (said : List ℕ)
     × IsChecked script traces lists faults text said × written text × told said

@@ -45,7 +45,8 @@ pub fn failures_of(
 ) -> Result<Vec<u8>, AllocError>
     requires { length script.now ≤ MOST_BYTES }
     ensures { IfOk result (λ said. said.items ≡ failed_text script.now (plan_value plan.entry)
-        played.now.lists.items played.now.faults.items vain.now printed.now yes) }
+        played.now.lists.items (played.now.start_faults.items, played.now.faults.items)
+        vain.now printed.now yes) }
 {
     let starts = view_of(alloc, View::Starts, script)?;
     let mut said = checked_text_of(alloc, &starts)?;

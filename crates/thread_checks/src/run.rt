@@ -100,8 +100,8 @@ fn check_plan<R: Threads + Wait + Sync>(
     requires length { length script.now ≤ MOST_BYTES }
     requires plan { plan_in (plain_text script.now) ≡ Ok (plan_value plan) }
     ensures ok { IfOk result (λ run. IsChecked script.now run.played.traces.items
-        run.played.lists.items run.played.faults.items (string_bytes run.text)
-        run.said.items) }
+        run.played.lists.items (run.played.start_faults.items, run.played.faults.items)
+        (string_bytes run.text) run.said.items) }
     ensures size { IfOk result (λ run. IsSizeOf script.now run.size.nodes run.size.trace_cap) }
     ensures len { IfOk result (λ run. vec_len run.played.traces ≡ run.size.nodes) }
 {
@@ -133,8 +133,8 @@ pub fn play_checked<R: Threads + Wait + Sync>(
 ) -> Result<CheckedRun, ScriptFault>
     requires { length script.now ≤ MOST_BYTES }
     ensures ok { IfOk result (λ run. IsChecked script.now run.played.traces.items
-        run.played.lists.items run.played.faults.items (string_bytes run.text)
-        run.said.items) }
+        run.played.lists.items (run.played.start_faults.items, run.played.faults.items)
+        (string_bytes run.text) run.said.items) }
     ensures size { IfOk result (λ run. IsSizeOf script.now run.size.nodes run.size.trace_cap) }
     ensures len { IfOk result (λ run. vec_len run.played.traces ≡ run.size.nodes) }
     ensures bad { (line : ℕ) → result ≡ Err (BadLine line) →

@@ -9,7 +9,7 @@ use Rattle.audit.specs.Traces.{Traces}
 use Rattle.streams.specs.declared.fault.ScriptFault.{ScriptFault}
 use Rattle.streams.specs.declared.fault.ScriptFault.TheVariants as faults
 use Rattle.thread_plans.specs.BadLines.{bad_text}
-use Rattle.thread_scripts.specs.Calls.{FaultList}
+use Rattle.thread_scripts.specs.Calls.{RunFaults}
 use Rattle.thread_checks.specs.Checked.{ChecksSaying, IsChecked, plain_text}
 use Rattle.thread_commands.specs.Checked.{FailsSaying}
 use Rattle.commands.specs.Statuses.{OnStatus}
@@ -17,7 +17,7 @@ use Rattle.thread_commands.proofs.Warned.{items_of}
 
 -- the script that was read is the input
 checked : (written told : List ℕ → Type 0) (script : List ℕ) (traces : Traces) (lists : Lists)
-    (refused : FaultList) (text said : List ℕ) (input : Option (List ℕ)) → IfSome input (λ bytes. script ≡ bytes) →
+    (refused : RunFaults) (text said : List ℕ) (input : Option (List ℕ)) → IfSome input (λ bytes. script ≡ bytes) →
     IsChecked script traces lists refused text said → written text → told said →
     IfSome input (λ bytes. ChecksSaying bytes written told)
 checked written told script traces lists refused text said None same is h s = tt
@@ -25,7 +25,7 @@ checked written told script traces lists refused text said (Some bytes) same is 
     (traces, lists, refused, text, said, subst (λ b. IsChecked b traces lists refused text said) same is, h, s)
 
 pub checked_on_ok : {T E : Type 0} (written told : List ℕ → Type 0) (script : List ℕ) (traces : Traces) (lists : Lists)
-    (refused : FaultList) (text said : List ℕ) (result : Result T E) (input : Option (List ℕ))
+    (refused : RunFaults) (text said : List ℕ) (result : Result T E) (input : Option (List ℕ))
     → IfSome input (λ bytes. script ≡ bytes) → IsChecked script traces lists refused text said →
     OnOk result (written text) → OnOk result (told said) →
     OnOk result (IfSome input (λ bytes. ChecksSaying bytes written told))

@@ -10,7 +10,7 @@ use Rattle.streams.specs.Streams.{Writes}
 use Rattle.streams.specs.Watched.{has_unflushed}
 use Rattle.streams.specs.declared.watched.Watched.{Watched}
 use Rattle.thread_plans.specs.Plans.{PlanValue}
-use Rattle.thread_scripts.specs.Calls.{FaultList}
+use Rattle.thread_scripts.specs.Calls.{RunFaults}
 use Rattle.thread_scripts.specs.Outputs.{IsJudged}
 use Rattle.thread_scripts.specs.Plays.{AreListsOf, AreTracesOf}
 use Rattle.thread_scripts.specs.Warnings.{warned_text}
@@ -21,7 +21,7 @@ pub record IsKept {O : Type 0} (Keeps : Traces → Lists → Type 0) (script : L
     (contents : O → Option (List ℕ)) (old new : Watched O) : Type 0 where
   pub traces : Traces
   pub lists : Lists
-  pub faults : FaultList
+  pub faults : RunFaults
   pub text : List ℕ
   pub explained : Bool
   pub legal : AreTracesOf plan traces

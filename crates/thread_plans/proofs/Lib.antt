@@ -5,5 +5,5 @@ pub mod Spelled
 pub mod Planned
 pub mod Grammars
 pub mod Naming
-pub mod WorkerLines
+pub mod LineNumbers
 pub mod NamedFirst

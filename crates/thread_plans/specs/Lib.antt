@@ -5,5 +5,5 @@ pub mod Laws
 pub mod Wanted
 pub mod BadLines
 pub mod Named
-pub mod WorkerLines
+pub mod LineNumbers
 pub mod LineCalls

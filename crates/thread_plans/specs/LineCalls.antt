@@ -1,12 +1,11 @@
--- The calls that lines of a script of threads ask for.
+-- The calls that lines of a worker ask for, in a script of threads.
 use Rattle.std.specs.Prelude.{ℕ, List, Option, Some, None}
 use Rattle.node_calls.specs.Told.{AskTold}
 use Rattle.streams.specs.Lines.{◌>>=◌}
-use Rattle.thread_plans.specs.Lines.{LineValue, makes, start_line, calls_line, line_in}
+use Rattle.thread_plans.specs.Lines.{LineValue, calls_line, line_in}
 
--- a call before the workers, or one of a worker; a spread is no call, and may make some
+-- a call of a worker
 abbrev pub asked_by : LineValue → Option AskTold
-asked_by (start_line node (makes ask)) = Some ask
 asked_by (calls_line call times) = Some call
 asked_by _ = None
 

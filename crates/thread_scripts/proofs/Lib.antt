@@ -14,3 +14,4 @@ pub mod Started
 pub mod Counted
 pub mod FaultCodes
 pub mod Faults
+pub mod RefusedStarts

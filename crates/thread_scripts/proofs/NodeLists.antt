@@ -17,7 +17,7 @@ use Rattle.gossip.specs.Mailboxes.{Place}
 use Rattle.thread_plans.specs.declared.plan.Rounds.{Rounds}
 use Rattle.thread_plans.specs.Plans.{BlockValue, PlanValue}
 use Rattle.thread_scripts.specs.Asks.{asks_of_block}
-use Rattle.thread_scripts.specs.Calls.{HandsBack, faults_told, lack_memory}
+use Rattle.thread_scripts.specs.Calls.{HandsBack, RunFaults, faults_told, lack_memory}
 use Rattle.thread_scripts.specs.Gossips.{IsGossip}
 use Rattle.thread_scripts.specs.Plays.{AreListsBelow, AreOfNode, AreOfWork, Part, Worked, config_at, gossip_at}
 use Rattle.thread_scripts.proofs.Made.{faults_of_workers, lists_of_workers, of_blocks, worked_of}
@@ -66,15 +66,16 @@ of_both {L = L} config seed blocks jobs dones gossip now answer receipts was bet
     }
 
 -- the lists of no node
-pub below_none : (plan : PlanValue) → AreListsBelow plan 0 [] []
-below_none plan = record { parts = []; number = refl; all = refl; refused = refl; each = tt }
+pub below_none : (plan : PlanValue) → AreListsBelow plan 0 [] ([], [])
+below_none plan = record { parts = []; number = refl; all = refl; starts = refl; refused = refl; each = tt }
 
 -- the lists of one node more
-pub below_more : (plan : PlanValue) (n : ℕ) (lists part new : Lists) (faults more after : List NodeFault)
+pub below_more : (plan : PlanValue) (n : ℕ) (lists part new : Lists) (faults more after : RunFaults)
     → AreListsBelow plan n lists faults
     → AreOfNode (config_at plan n) plan.seed plan (gossip_at plan n) part more
-    → new ≡ lists ++ part → after ≡ faults ++ more → AreListsBelow plan (n + 1) new after
-below_more plan n lists part new faults more after so_far here is also =
+    → new ≡ lists ++ part → after.0 ≡ faults.0 ++ more.0 → after.1 ≡ faults.1 ++ more.1
+    → AreListsBelow plan (n + 1) new after
+below_more plan n lists part new faults more after so_far here is before also =
     let parts = so_far.parts in
     let one : Part = (part, more) in
     let there : n ≡ 0 + length parts = omega (arith, so_far.number) in record {
@@ -83,9 +84,12 @@ below_more plan n lists part new faults more after so_far here is also =
       all = is ∙ ap (λ ls. ls ++ part) so_far.all
           ∙ ap (λ ls. flat_map (λ (p : Part). p.0) parts ++ ls) (sym (append-nil part))
           ∙ sym (flat_map-append (λ (p : Part). p.0) parts (one ∷ []));
-      refused = also ∙ ap (λ fs. fs ++ more) so_far.refused
-          ∙ ap (λ fs. flat_map (λ (p : Part). p.1) parts ++ fs) (sym (append-nil more))
-          ∙ sym (flat_map-append (λ (p : Part). p.1) parts (one ∷ []));
+      starts = before ∙ ap (λ fs. fs ++ more.0) so_far.starts
+          ∙ ap (λ fs. flat_map (λ (p : Part). p.1.0) parts ++ fs) (sym (append-nil more.0))
+          ∙ sym (flat_map-append (λ (p : Part). p.1.0) parts (one ∷ []));
+      refused = also ∙ ap (λ fs. fs ++ more.1) so_far.refused
+          ∙ ap (λ fs. flat_map (λ (p : Part). p.1.1) parts ++ fs) (sym (append-nil more.1))
+          ∙ sym (flat_map-append (λ (p : Part). p.1.1) parts (one ∷ []));
       each = AllFrom-push _ 0 parts one so_far.each
           (subst (λ k. AreOfNode (config_at plan k) plan.seed plan (gossip_at plan k) part more) there here);
     }

@@ -1,5 +1,5 @@
 -- Which calls receipts are of.
-use Rattle.std.specs.Prelude.{◌≡◌, ◌≢◌, ◌⊎◌, ◌==◌, ℕ, Bool, true, false, MatchBool, List, [], ◌∷◌, ◌++◌, map}
+use Rattle.std.specs.Prelude.{◌≡◌, ◌≢◌, ◌⊎◌, ◌==◌, ◌+◌, ℕ, Bool, true, false, MatchBool, List, [], ◌∷◌, ◌++◌, map, Option, Some, None}
 use Rattle.std.specs.List.{list_any}
 use Rattle.node_steps.specs.declared.config.Config.{Config}
 use Rattle.node_calls.specs.declared.ask.Ask.{Ask}
@@ -28,12 +28,19 @@ pub data AreMade (config : Config) (seed : List ℕ) : List AskTold → List Rec
       → AreMade config seed asks receipts refusals
       → AreMade config seed (ask_told ask ∷ asks) receipts ((ask, fault) ∷ refusals)
 
--- receipts were added behind others, and refusals behind others
+-- why calls were refused, one after the other
+abbrev pub FaultList : Type 0
+FaultList = List NodeFault
+
+abbrev pub faults_of : List Refusal → FaultList
+faults_of refusals = map (λ (r : Refusal). r.1) refusals
+
+-- receipts were added behind others, and refusals behind others, of these faults
 abbrev pub Adds : (List Receipt → List Refusal → Type 0) → List Receipt → List Receipt → List Refusal → List Refusal
-    → Type 0
-Adds Are was now noted noted_now =
+    → FaultList → Type 0
+Adds Are was now noted noted_now why =
     (more : List Receipt) × (refusals : List Refusal) × (now ≡ was ++ more) × (noted_now ≡ noted ++ refusals)
-    × Are more refusals
+    × (why ≡ faults_of refusals) × Are more refusals
 
 -- ---- what a node does before its workers start
 
@@ -54,14 +61,27 @@ AreOfLine config seed line receipts refusals =
     MatchBool (line.0 == config.node) (AreOfStart config seed line.1 receipts refusals)
     ((receipts ≡ []) × (refusals ≡ []))
 
--- lines, in their order
+-- why the call of one line was refused, if it was
+abbrev pub fault_list : Option NodeFault → FaultList
+fault_list None = []
+fault_list (Some fault) = fault ∷ []
+
+-- why calls before the workers were refused, each with the place of its line among those of the plan
+abbrev pub StartFaults : Type 0
+StartFaults = List (ℕ × NodeFault)
+
+abbrev pub placed : ℕ → FaultList → StartFaults
+placed place why = map (λ (fault : NodeFault). (place, fault)) why
+
+-- lines, in their order, the first of which has this place
 pub data AreOfStarts (config : Config) (seed : List ℕ)
-    : List (ℕ × StartValue) → List Receipt → List Refusal → Type 0 where
-  no_line : AreOfStarts config seed [] [] []
-  next_line : {line : ℕ × StartValue} {lines : List (ℕ × StartValue)} (first rest : List Receipt)
-      (refused others : List Refusal)
-      → AreOfLine config seed line first refused → AreOfStarts config seed lines rest others
-      → AreOfStarts config seed (line ∷ lines) (first ++ rest) (refused ++ others)
+    : ℕ → List (ℕ × StartValue) → List Receipt → List Refusal → StartFaults → Type 0 where
+  no_line : {place : ℕ} → AreOfStarts config seed place [] [] [] []
+  next_line : {place : ℕ} {line : ℕ × StartValue} {lines : List (ℕ × StartValue)} {later : StartFaults}
+      (first rest : List Receipt) (refused others : List Refusal)
+      → AreOfLine config seed line first refused → AreOfStarts config seed (place + 1) lines rest others later
+      → AreOfStarts config seed place (line ∷ lines) (first ++ rest) (refused ++ others)
+      (placed place (faults_of refused) ++ later)
 
 -- ---- what workers do
 
@@ -79,14 +99,7 @@ abbrev pub AreOfThread : Config → List ℕ → List AskTold → List Receipt �
 AreOfThread config seed asks receipts refusals =
     AreMade config seed asks receipts refusals ⊎ ((receipts ≡ []) × (refusals ≡ []))
 
--- why calls were refused, one after the other
-abbrev pub FaultList : Type 0
-FaultList = List NodeFault
-
-abbrev pub faults_of : List Refusal → FaultList
-faults_of refusals = map (λ (r : Refusal). r.1) refusals
-
--- the same of a worker's faults, each of which has the number of its call
+-- why a worker's calls were refused, each of which has the number of its call
 abbrev pub faults_in : List (ℕ × NodeFault) → FaultList
 faults_in told = map (λ (f : ℕ × NodeFault). f.1) told
 
@@ -99,3 +112,7 @@ abbrev pub HandsBack : {L : Type 0} → Config → List ℕ → List AskTold →
 HandsBack config seed asks d =
     (faults_told d ≡ faults_of d.refusals)
     × (lack_memory d.faults.items ≡ false → AreOfThread config seed asks d.receipts.items d.refusals)
+
+-- why calls of a run were refused: those before the workers, and those of the workers
+abbrev pub RunFaults : Type 0
+RunFaults = StartFaults × FaultList

@@ -10,4 +10,5 @@ pub mod Unfits
 pub mod Short
 pub mod ShortStarts
 pub mod RefusedCalls
+pub mod RefusedStarts
 pub mod Warnings

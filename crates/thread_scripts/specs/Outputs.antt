@@ -11,7 +11,7 @@ use Rattle.audit.specs.Traces.{Traces, audited}
 use Rattle.audit.specs.VerdictText.{verdict_text}
 use Rattle.streams.specs.Fields.{output_line}
 use Rattle.thread_plans.specs.Plans.{PlanValue, plan_in}
-use Rattle.thread_scripts.specs.Calls.{FaultList}
+use Rattle.thread_scripts.specs.Calls.{RunFaults}
 use Rattle.thread_scripts.specs.Plays.{AreListsOf, AreTracesOf}
 use Rattle.thread_scripts.specs.Warnings.{warned_text}
 
@@ -44,7 +44,7 @@ pub record IsOutputOf (plan : PlanValue) (traces : Traces) (lists : Lists) (text
 -- what it prints that came to some legal traces of its nodes, and to lists of receipts that these gave their seats
 abbrev pub IsOutput : PlanValue → List ℕ → Type 0
 IsOutput plan text =
-    (traces : Traces) × (lists : Lists) × (faults : FaultList) × AreTracesOf plan traces
+    (traces : Traces) × (lists : Lists) × (faults : RunFaults) × AreTracesOf plan traces
     × AreListsOf plan lists faults × IsOutputOf plan traces lists text
 
 -- a script has a plan, which prints this
@@ -64,7 +64,7 @@ IsJudged plan traces lists text explained =
 -- a script has a plan, whose run came to this text, and is warned of this
 abbrev pub ComesToSaying : List ℕ → List ℕ → List ℕ → Type 0
 ComesToSaying script text said =
-    (plan : PlanValue) × (traces : Traces) × (lists : Lists) × (faults : FaultList) × (explained : Bool)
+    (plan : PlanValue) × (traces : Traces) × (lists : Lists) × (faults : RunFaults) × (explained : Bool)
     × (plan_in script ≡ Ok plan) × AreTracesOf plan traces × AreListsOf plan lists faults
     × IsJudged plan traces lists text explained × (said ≡ warned_text script plan lists faults explained)
 

@@ -16,7 +16,7 @@ use Rattle.gossip.specs.Mailboxes.{Place, new_place}
 use Rattle.thread_plans.specs.declared.plan.Rounds.{Rounds}
 use Rattle.thread_plans.specs.Plans.{BlockValue, PlanValue}
 use Rattle.thread_scripts.specs.Asks.{asks_of_block}
-use Rattle.thread_scripts.specs.Calls.{AreOfStarts, AreOfThread, FaultList, faults_of}
+use Rattle.thread_scripts.specs.Calls.{AreOfStarts, AreOfThread, FaultList, RunFaults, faults_of}
 use Rattle.thread_scripts.specs.Gossips.{AreOfGossip, gossip_over}
 
 -- a trace is legal for a node of this configuration, and its random draws are the first ones of this seed
@@ -69,28 +69,29 @@ pub record AreOfWork (config : Config) (seed : List ℕ) (blocks : List BlockVal
   pub told : AreOfGossip config seed gossip gossiped
 
 -- The lists of a node of a plan: of what it does before its workers, of each of its blocks, and of its gossip. It gave
--- each to one seat, from its first call on. The faults say why calls of its workers were refused
+-- each to one seat, from its first call on. The faults say why calls before its workers were refused, and calls of these
 pub record AreOfNode (config : Config) (seed : List ℕ) (plan : PlanValue) (gossip : Option (Place × Rounds)) (lists : Lists)
-    (faults : FaultList) : Type 0 where
+    (faults : RunFaults) : Type 0 where
   pub starts : Vec Receipt Global
   pub refused : List Refusal
   pub given : AreListsAt config seed lists
-  pub started : AreOfStarts config seed plan.starts starts.items refused
-  pub beside : AreOfWork config seed (blocks_of plan config.node) gossip (starts ∷ []) lists faults
+  pub started : AreOfStarts config seed 0 plan.starts starts.items refused faults.0
+  pub beside : AreOfWork config seed (blocks_of plan config.node) gossip (starts ∷ []) lists faults.1
 
--- what a node comes to: its lists, and why calls of its workers were refused
+-- what a node comes to: its lists, and why calls were refused
 abbrev pub Part : Type 0
-Part = Lists × FaultList
+Part = Lists × RunFaults
 
--- the lists of so many nodes of a plan, from 0 on, and why calls of their workers were refused
-pub record AreListsBelow (plan : PlanValue) (nodes : ℕ) (lists : Lists) (faults : FaultList) : Type 0 where
+-- the lists of so many nodes of a plan, from 0 on, and why calls were refused
+pub record AreListsBelow (plan : PlanValue) (nodes : ℕ) (lists : Lists) (faults : RunFaults) : Type 0 where
   pub parts : List Part
   pub number : length parts ≡ nodes
   pub all : lists ≡ flat_map (λ (part : Part). part.0) parts
-  pub refused : faults ≡ flat_map (λ (part : Part). part.1) parts
+  pub starts : faults.0 ≡ flat_map (λ (part : Part). part.1.0) parts
+  pub refused : faults.1 ≡ flat_map (λ (part : Part). part.1.1) parts
   pub each : AllFrom (λ node (part : Part).
       AreOfNode (config_at plan node) plan.seed plan (gossip_at plan node) part.0 part.1) 0 parts
 
--- the lists of the plan's nodes, in their order, and why calls of their workers were refused
-abbrev pub AreListsOf : PlanValue → Lists → FaultList → Type 0
+-- the lists of the plan's nodes, in their order, and why calls were refused
+abbrev pub AreListsOf : PlanValue → Lists → RunFaults → Type 0
 AreListsOf plan lists faults = AreListsBelow plan plan.nodes lists faults

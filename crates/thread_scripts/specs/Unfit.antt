@@ -1,4 +1,4 @@
--- Lines whose calls every node refuses, and passes that met a point that isn't set.
+-- Lines of workers whose calls every node refuses, and passes that met a point that isn't set.
 use Rattle.std.specs.Prelude.{ℕ, ◌+◌, ◌==◌, Bool, true, false, List, [], ◌∷◌, ◌++◌, count_by, is_some, nat_lt, if◌then◌else◌, Option, Some, None, codes, decimal}
 use Rattle.std.specs.List.{sum_by}
 use Rattle.actions.specs.Reading.{reading}
@@ -31,7 +31,7 @@ why_refused (grants name term amount) = no_name name
 why_refused (emits to) = None
 why_refused (delivers bytes) = None
 
--- the same of the call of a line, if it has one
+-- the same of the call of a worker's line, if it has one
 abbrev pub why_unfit : List ℕ → Option NodeFault
 why_unfit line = call_in line >>= why_refused
 

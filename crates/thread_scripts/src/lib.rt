@@ -11,6 +11,7 @@ mod nodes;
 mod output;
 mod played;
 mod refused;
+mod refused_starts;
 mod rounds;
 mod run;
 mod short;

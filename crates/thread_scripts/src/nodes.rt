@@ -33,17 +33,22 @@ pub(crate) struct NodeJob {
 }
 
 /// What a node's run came to: its trace; of each seat the receipts of its calls, in their order; and why
-/// calls of its workers were refused.
+/// calls before its workers were refused, each with the place of its line in the plan, and calls of its
+/// workers.
 #[derive(Drop)]
 pub(crate) struct NodePlayed {
     pub trace: Trace,
     pub lists: Vec<Vec<Receipt>>,
+    pub start_faults: Vec<(usize, NodeFault)>,
     pub faults: Vec<NodeFault>,
     ghost counted: { length trace.calls ≡ sum_by (λ list. vec_len list) lists.items },
 }
 
 /// Seats that are done, and why calls of workers were refused.
 type Worked<L> = (Finished<L>, Vec<NodeFault>);
+
+/// The same, and why calls before the workers were.
+type Made<L> = (Finished<L>, Vec<(usize, NodeFault)>, Vec<NodeFault>);
 
 // The calls of a node's workers, and its gossip beside them, from as many seats.
 fn make_calls_beside<L: Label + Send + Sync, R: Threads + Wait + Sync>(
@@ -96,7 +101,7 @@ fn make_calls<L: Label + Send + Sync, R: Threads + Wait + Sync>(
     waits: &Waits,
     node: u8,
     gossip: Option<Gossip>,
-) -> Result<Worked<L>, AllocError>
+) -> Result<Made<L>, AllocError>
     requires node { node ≡ L.config.node }
     requires few { vec_len seats < 2 ^ 8 }
     requires each { vec_len seats ≡ count_by (λ b. b.node == node) plan.now.blocks.items + 1
@@ -104,17 +109,26 @@ fn make_calls<L: Label + Send + Sync, R: Threads + Wait + Sync>(
     requires fresh { All (λ calls. calls ≡ 0) seats.items }
     ensures len { IfOk result (λ all. vec_len all.0.seats ≡ vec_len seats) }
     ensures calls { IfOk result (λ all. AreOfNode L.config L.seed (plan_value plan.now)
-        (option_map (λ g. (g.wire, g.rounds)) gossip) all.0.lists.items all.1.items) }
+        (option_map (λ g. (g.wire, g.rounds)) gossip) all.0.lists.items
+        (all.1.items, all.2.items)) }
 {
     let finished = Finished::new(alloc);
     let Some(seat) = seats.pop() else {
         unreachable!();
     };
-    let (seat, receipts, _) = make_starts(rt, alloc, registry, seat, &plan.starts, node)?;
+    let (seat, receipts, _, start_faults) = make_starts(
+        rt,
+        alloc,
+        registry,
+        seat,
+        &plan.starts,
+        node,
+    )?;
     let finished = finished.with(seat, receipts)?;
-    make_calls_beside(
+    let (all, faults) = make_calls_beside(
         rt, alloc, registry, finished, seats, plan, waits, node, gossip,
-    )
+    )?;
+    Ok((all, start_faults, faults))
 }
 
 // Runs the node of the registry that `L` names: what that is, the caller picks.
@@ -137,7 +151,7 @@ fn run_registry<L: Label + Send + Sync, R: Threads + Wait + Sync>(
     ensures trace { IfOk result (λ played. IsTraceOf job.config plan.now.seed played.trace) }
     ensures lists { IfOk result (λ played. AreOfNode job.config plan.now.seed
         (plan_value plan.now) (option_map (λ g. (g.wire, g.rounds)) job.gossip)
-        played.lists.items played.faults.items) }
+        played.lists.items (played.start_faults.items, played.faults.items)) }
 {
     let NodeJob { config, gossip } = job;
     let started = Registry::<L>::start(rt, alloc, blank, config, plan.seed, seats);
@@ -146,7 +160,9 @@ fn run_registry<L: Label + Send + Sync, R: Threads + Wait + Sync>(
         return Err(AllocError);
     };
     let node = config.node;
-    let (finished, faults) = make_calls(rt, alloc, &registry, seats, plan, waits, node, gossip)?;
+    let (finished, start_faults, faults) = make_calls(
+        rt, alloc, &registry, seats, plan, waits, node, gossip,
+    )?;
     waits.settle(rt, &registry, node);
     let Finished { seats, lists } = finished;
     let Closed {
@@ -157,6 +173,7 @@ fn run_registry<L: Label + Send + Sync, R: Threads + Wait + Sync>(
     Ok(NodePlayed {
         trace,
         lists,
+        start_faults,
         faults,
     })
 }
@@ -180,7 +197,7 @@ pub(crate) fn run_node<R: Threads + Wait + Sync>(
     ensures trace { IfOk result (λ played. IsTraceOf job.config plan.now.seed played.trace) }
     ensures lists { IfOk result (λ played. AreOfNode job.config plan.now.seed
         (plan_value plan.now) (option_map (λ g. (g.wire, g.rounds)) job.gossip)
-        played.lists.items played.faults.items) }
+        played.lists.items (played.start_faults.items, played.faults.items)) }
 {
     let seats = seats_at(plan, &job);
     let blank = Blank::new(u64::from(seats));

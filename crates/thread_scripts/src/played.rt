@@ -20,12 +20,14 @@ use std::thread::Threads;
 use thread_plans::{Rounds, ThreadPlan};
 
 /// What a plan came to: the traces of its nodes, in their order; of each seat the receipts of its calls,
-/// in their order; and why calls of workers were refused, in the order of the nodes, of their blocks, and
-/// of the calls of each.
+/// in their order; why calls before the workers were refused, in the order of the nodes and of their
+/// lines, each with the place of its line among the plan's; and why calls of workers were, in the order
+/// of the nodes, of their blocks, and of the calls of each.
 #[derive(Drop)]
 pub struct Played {
     pub traces: Vec<Trace>,
     pub lists: Vec<Vec<Receipt>>,
+    pub start_faults: Vec<(usize, NodeFault)>,
     pub faults: Vec<NodeFault>,
     ghost counted: { sum_by (λ trace. length trace.calls) traces.items
         ≡ sum_by (λ list. vec_len list) lists.items },
@@ -36,11 +38,13 @@ impl Played {
         ensures len { vec_len result.traces ≡ 0 }
         ensures none { result.traces.items ≡ [] }
         ensures no_list { result.lists.items ≡ [] }
+        ensures no_start_fault { result.start_faults.items ≡ [] }
         ensures no_fault { result.faults.items ≡ [] }
     {
         Played {
             traces: Vec::new(alloc),
             lists: Vec::new(alloc),
+            start_faults: Vec::new(alloc),
             faults: Vec::new(alloc),
         }
     }
@@ -52,25 +56,31 @@ impl Played {
             all.traces.items ≡ self.traces.items ++ node.trace ∷ []) }
         ensures lists { IfOk result (λ all.
             all.lists.items ≡ self.lists.items ++ node.lists.items) }
+        ensures start_faults { IfOk result (λ all.
+            all.start_faults.items ≡ self.start_faults.items ++ node.start_faults.items) }
         ensures faults { IfOk result (λ all.
             all.faults.items ≡ self.faults.items ++ node.faults.items) }
     {
         let Played {
             mut traces,
             mut lists,
+            mut start_faults,
             mut faults,
         } = self;
         let NodePlayed {
             trace,
             lists: others,
+            start_faults: before,
             faults: more,
         } = node;
         traces.push(trace)?;
         put_behind(&mut lists, others)?;
+        put_behind(&mut start_faults, before)?;
         put_behind(&mut faults, more)?;
         Ok(Played {
             traces,
             lists,
+            start_faults,
             faults,
         })
     }
@@ -132,8 +142,8 @@ fn run_all<R: Threads + Wait + Sync>(
         runs.items) }
     ensures lists { IfOk result (λ runs. AllFrom (λ node run. IfOk run (λ played.
         AreOfNode (config_at (plan_value plan.now) node) plan.now.seed (plan_value plan.now)
-        (gossip_at (plan_value plan.now) node) played.lists.items played.faults.items)) 0
-        runs.items) }
+        (gossip_at (plan_value plan.now) node) played.lists.items
+        (played.start_faults.items, played.faults.items))) 0 runs.items) }
 {
     let jobs = jobs_of(alloc, plan)?;
     let run = |job: NodeJob| -> Result<NodePlayed, AllocError>
@@ -141,7 +151,7 @@ fn run_all<R: Threads + Wait + Sync>(
             IsTraceOf job.config plan.entry.now.seed played.trace) }
         ensures lists { IfOk result (λ played. AreOfNode job.config plan.entry.now.seed
             (plan_value plan.entry.now) (option_map (λ g. (g.wire, g.rounds)) job.gossip)
-            played.lists.items played.faults.items) }
+            played.lists.items (played.start_faults.items, played.faults.items)) }
     { run_node(rt, alloc, plan, waits, job) };
     thread::map_vec(rt, jobs, &run)
 }
@@ -149,7 +159,7 @@ fn run_all<R: Threads + Wait + Sync>(
 /// Plays a plan: the nodes run beside each other, and so do the workers of each of them. Each trace is
 /// legal, and its random draws are the first ones of the plan's seed. The lists are, node by node, the
 /// receipts of what it does before its workers, of each of its blocks, and of its gossip; and the faults
-/// say why calls of these blocks were refused.
+/// say why calls before the workers were refused, and calls of these blocks.
 pub fn play<R: Threads + Wait + Sync>(
     rt: &R,
     alloc: Global,
@@ -159,7 +169,8 @@ pub fn play<R: Threads + Wait + Sync>(
     ensures traces { IfOk result (λ played.
         AreTracesOf (plan_value plan.now) played.traces.items) }
     ensures lists { IfOk result (λ played.
-        AreListsOf (plan_value plan.now) played.lists.items played.faults.items) }
+        AreListsOf (plan_value plan.now) played.lists.items
+        (played.start_faults.items, played.faults.items)) }
 {
     play_waiting(rt, alloc, plan, &Waits::none(alloc))
 }
@@ -175,7 +186,8 @@ pub fn play_waiting<R: Threads + Wait + Sync>(
     ensures traces { IfOk result (λ played.
         AreTracesOf (plan_value plan.now) played.traces.items) }
     ensures lists { IfOk result (λ played.
-        AreListsOf (plan_value plan.now) played.lists.items played.faults.items) }
+        AreListsOf (plan_value plan.now) played.lists.items
+        (played.start_faults.items, played.faults.items)) }
 {
     let mut played = Played::new(alloc);
     for run in run_all(rt, alloc, plan, waits)? {

@@ -1,10 +1,11 @@
 //! What a node does before its workers start.
 
-ghost use Rattle.std.specs.Prelude.{◌≡◌, ◌≢◌, ◌++◌, ◌∷◌, [], map, vec_len, IfOk, OnOk};
+ghost use Rattle.std.specs.Prelude.{◌≡◌, ◌≢◌, ◌++◌, ◌∷◌, [], map, vec_len, IfOk, OnOk, Some};
 ghost use Rattle.node_calls.specs.Told.{ask_ref_told};
 ghost use Rattle.node_registry.specs.Receipts.{AreGivenSince};
 ghost use Rattle.thread_plans.specs.Plans.{start_line_value};
 ghost use Rattle.thread_scripts.specs.Calls.{Adds, AreMade, AreOfLine, AreOfSpread, AreOfStarts};
+ghost use Rattle.thread_scripts.specs.Calls.{fault_list, placed};
 
 use crate::lists::put_behind;
 use gossip::{Ended, spread};
@@ -15,16 +16,16 @@ use std::sync::Wait;
 use thread_plans::{Start, StartLine};
 
 // A refusal is no error, but for out of memory.
-fn pass_over(fault: NodeFault) -> Result<(), AllocError>
-    ensures { OnOk result (fault ≢ NodeFault.OutOfMemory) }
+fn pass_over(fault: NodeFault) -> Result<Option<NodeFault>, AllocError>
+    ensures { IfOk result (λ why. (why ≡ Some fault) × (fault ≢ NodeFault.OutOfMemory)) }
 {
     if fault == NodeFault::OutOfMemory {
         return Err(AllocError);
     }
-    Ok(())
+    Ok(Some(fault))
 }
 
-// Makes a call, and keeps its receipt, or notes that it was refused.
+// Makes a call, and keeps its receipt, or notes that it was refused, and answers why.
 fn make_call<L: Label, R: Wait>(
     rt: &R,
     alloc: Global,
@@ -33,19 +34,19 @@ fn make_call<L: Label, R: Wait>(
     call: AskRef<'_>,
     receipts: &mut Vec<Receipt>,
     refusals: &mut Refusals,
-) -> Result<(), AllocError>
+) -> Result<Option<NodeFault>, AllocError>
     requires counted { seat.old ≡ vec_len receipts.old }
     requires given { AreGivenSince L.config L.seed 0 receipts.old.items }
     ensures counted { OnOk result (seat.new ≡ vec_len receipts.new) }
     ensures given { OnOk result (AreGivenSince L.config L.seed 0 receipts.new.items) }
-    ensures made { OnOk result (Adds (AreMade L.config L.seed (ask_ref_told call.entry ∷ []))
-        receipts.old.items receipts.new.items refusals.old refusals.new) }
+    ensures made { IfOk result (λ why. Adds (AreMade L.config L.seed (ask_ref_told call.entry ∷ []))
+        receipts.old.items receipts.new.items refusals.old refusals.new (fault_list why)) }
 {
     let ask = call.copied(alloc)?;
     match registry.enter_noting(rt, alloc, seat, ask, refusals) {
         Ok(receipt) => {
             receipts.push(receipt)?;
-            Ok(())
+            Ok(None)
         }
         Err(fault) => pass_over(fault),
     }
@@ -74,7 +75,8 @@ fn spread_rights<L: Label, R: Wait>(
     put_behind(receipts, report.receipts)
 }
 
-// Does what a line says before the workers start, if it is the node's, and keeps the receipts.
+// Does what a line says before the workers start, if it is the node's, and keeps the receipts. Answers why
+// its call was refused, if it was.
 fn do_start<L: Label, R: Wait>(
     rt: &R,
     alloc: Global,
@@ -84,26 +86,45 @@ fn do_start<L: Label, R: Wait>(
     node: u8,
     receipts: &mut Vec<Receipt>,
     refusals: &mut Refusals,
-) -> Result<(), AllocError>
+) -> Result<Option<NodeFault>, AllocError>
     requires node { node ≡ L.config.node }
     requires counted { seat.old ≡ vec_len receipts.old }
     requires given { AreGivenSince L.config L.seed 0 receipts.old.items }
     ensures counted { OnOk result (seat.new ≡ vec_len receipts.new) }
     ensures given { OnOk result (AreGivenSince L.config L.seed 0 receipts.new.items) }
-    ensures done { OnOk result (Adds (AreOfLine L.config L.seed (start_line_value line.now))
-        receipts.old.items receipts.new.items refusals.old refusals.new) }
+    ensures done { IfOk result (λ why. Adds (AreOfLine L.config L.seed (start_line_value line.now))
+        receipts.old.items receipts.new.items refusals.old refusals.new (fault_list why)) }
 {
     if line.node != node {
-        return Ok(());
+        return Ok(None);
     }
     match line.start {
         Start::Call(call) => make_call(rt, alloc, registry, seat, call, receipts, refusals),
-        Start::Spread { name } => spread_rights(rt, alloc, registry, seat, name, receipts),
+        Start::Spread { name } => {
+            spread_rights(rt, alloc, registry, seat, name, receipts)?;
+            Ok(None)
+        }
     }
 }
 
+// Keeps why the call of the line at a place was refused, if it was.
+fn push_fault(
+    place: usize,
+    why: Option<NodeFault>,
+    faults: &mut Vec<(usize, NodeFault)>,
+) -> Result<(), AllocError>
+    ensures { OnOk result (faults.new.items ≡ faults.old.items ++ placed place (fault_list why)) }
+{
+    if let Some(fault) = why {
+        faults.push((place, fault))?;
+    }
+    Ok(())
+}
+
+/// A seat, its receipts, what the registry noted as refused, and why the calls of which lines were.
+type Started<L> = (Seat<L>, Vec<Receipt>, Refusals, Vec<(usize, NodeFault)>);
+
 /// Does what a node does before its workers start, in its order, from a seat that has made no call.
-/// Answers the seat, the receipts, and what was refused.
 pub(crate) fn make_starts<L: Label, R: Wait>(
     rt: &R,
     alloc: Global,
@@ -111,18 +132,20 @@ pub(crate) fn make_starts<L: Label, R: Wait>(
     mut seat: Seat<L>,
     starts: &[StartLine<'_>],
     node: u8,
-) -> Result<(Seat<L>, Vec<Receipt>, Refusals), AllocError>
+) -> Result<Started<L>, AllocError>
     requires node { node ≡ L.config.node }
     requires fresh { seat ≡ 0 }
     ensures counted { IfOk result (λ done. done.0 ≡ vec_len done.1) }
     ensures given { IfOk result (λ done. AreGivenSince L.config L.seed 0 done.1.items) }
-    ensures done { IfOk result (λ done. AreOfStarts L.config L.seed
-        (map start_line_value starts.now) done.1.items done.2) }
+    ensures done { IfOk result (λ done. AreOfStarts L.config L.seed 0
+        (map start_line_value starts.now) done.1.items done.2 done.3.items) }
 {
     let mut receipts = Vec::new(alloc);
     let mut refusals = Refusals::new();
+    let mut faults = Vec::new(alloc);
+    let mut place = 0usize;
     for line in starts {
-        do_start(
+        let why = do_start(
             rt,
             alloc,
             registry,
@@ -132,6 +155,8 @@ pub(crate) fn make_starts<L: Label, R: Wait>(
             &mut receipts,
             &mut refusals,
         )?;
+        push_fault(place, why, &mut faults)?;
+        place += 1;
     }
-    Ok((seat, receipts, refusals))
+    Ok((seat, receipts, refusals, faults))
 }

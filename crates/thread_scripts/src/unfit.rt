@@ -1,4 +1,4 @@
-//! Lines whose calls every node refuses, and passes that met a point that isn't set.
+//! Lines of workers whose calls every node refuses, and passes that met a point that isn't set.
 
 ghost use Rattle.std.specs.Prelude.{◌≡◌, ◌+◌, ◌++◌, ◌<◌, ◌≤◌, ◌∷◌, [], count_by, length, vec_len};
 ghost use Rattle.std.specs.Prelude.{IfOk, OnOk};
@@ -100,7 +100,8 @@ struct Warning {
     said: Vec<u8>,
 }
 
-fn say_unfit(
+/// Says of a line why its call is refused, if it is.
+pub(crate) fn say_unfit(
     alloc: Global,
     number: u32,
     why: Option<NodeFault>,
@@ -157,8 +158,8 @@ impl Warning {
     }
 }
 
-/// What is said of lines with a call that every node refuses: of 20 at most, and then how many they
-/// are.
+/// What is said of lines of workers with a call that every node refuses: of 20 at most, and then how many
+/// they are.
 pub(crate) fn unfit_text(alloc: Global, script: &[u8]) -> Result<Vec<u8>, AllocError>
     requires { length script.now ≤ MOST_BYTES }
     ensures { IfOk result (λ said. said.items ≡ unfit_text script.now) }

@@ -8,12 +8,13 @@ ghost use Rattle.thread_scripts.specs.Warnings.{audit_said, warned_text};
 
 use crate::played::Played;
 use crate::refused::say_refused;
+use crate::refused_starts::say_refused_starts;
 use crate::short::say_shorts;
 use crate::short_starts::say_starts;
 use crate::unfit::{say_unset, unfit_text, unset_in};
 use std::alloc::{AllocError, Global};
 use streams::{MOST_BYTES, ScriptFault};
-use thread_plans::{ThreadPlan, bad_lines_of, read_plan, worker_lines_of};
+use thread_plans::{ThreadPlan, bad_lines_of, read_plan, start_lines_of, worker_lines_of};
 
 // Says that an audit says no, if it does.
 fn say_audit(yes: bool, said: &mut Vec<u8>) -> Result<(), AllocError>
@@ -26,9 +27,10 @@ fn say_audit(yes: bool, said: &mut Vec<u8>) -> Result<(), AllocError>
 }
 
 /// What a run of a script is warned of that has this plan and came to this, of which the audit says yes
-/// or no: lines whose calls every node refuses, with the reason; nodes and workers whose calls weren't
-/// all accepted; how many calls of workers were refused with each code; how many passes met a point that
-/// isn't set; and a no. Nothing, where none of these is so.
+/// or no: `start` lines whose calls were refused, and lines of workers whose calls every node refuses,
+/// with the reason; nodes and workers whose calls weren't all accepted; how many calls of workers were
+/// refused with each code; how many passes met a point that isn't set; and a no. Nothing, where none of
+/// these is so.
 pub fn warnings_of(
     alloc: Global,
     script: &[u8],
@@ -38,9 +40,13 @@ pub fn warnings_of(
 ) -> Result<Vec<u8>, AllocError>
     requires { length script.now ≤ MOST_BYTES }
     ensures { IfOk result (λ said. said.items ≡ warned_text script.now (plan_value plan.now)
-        played.now.lists.items played.now.faults.items yes) }
+        played.now.lists.items (played.now.start_faults.items, played.now.faults.items) yes) }
 {
-    let mut said = unfit_text(alloc, script)?;
+    let mut said = Vec::new(alloc);
+    let numbers = start_lines_of(alloc, script)?;
+    say_refused_starts(alloc, &numbers, &played.start_faults, &mut said)?;
+    let unfit = unfit_text(alloc, script)?;
+    said.extend_from_slice(&unfit)?;
     say_starts(alloc, plan, &played.lists, &mut said)?;
     let numbers = worker_lines_of(alloc, script)?;
     say_shorts(alloc, plan, &played.lists, &numbers, &mut said)?;

@@ -1,6 +1,7 @@
 use Rattle.std.proofs.Common.{◌≡◌}
 use Rattle.streams.specs.Streams.{Writes}
 use Rattle.streams.specs.Watched.{inner_of}
+use Rattle.thread_scripts.specs.Calls.{RunFaults}
 use Rattle.thread_checks.specs.Checked.{IsChecked}
 use Rattle.thread_commands.proofs.CheckedRuns.{checked_on_ok}
 use Rattle.thread_commands.proofs.checking.run_checked.Goals as goal
@@ -8,12 +9,13 @@ use Rattle.thread_commands.proofs.checking.run_checked.Goals as goal
 pub returns-clause-ok : goal.returns-clause-ok
 returns-clause-ok g c =
     let run = c.in_ok-run.run' in
+    let faults : RunFaults = (run.played.start_faults.items, run.played.faults.items) in
     let is : IsChecked c.in_ok-script.script.items run.played.traces.items run.played.lists.items
-    run.played.faults.items c.as_bytes.result.now run.said.items =
+    faults c.as_bytes.result.now run.said.items =
     rw (← c.as_slice.ensures.value, c.as_bytes.ensures.value) c.in_ok-run.ensures.ok in
     checked_on_ok (Writes g.O.Write.contents c.args.writer.now c.write_checked.new.writer)
     (λ s. c.write_checked.new.said.items ≡ s)
-    c.in_ok-script.script.items run.played.traces.items run.played.lists.items run.played.faults.items
+    c.in_ok-script.script.items run.played.traces.items run.played.lists.items faults
     c.as_bytes.result.now run.said.items
     c.write_checked.result (g.I.Read.remaining (inner_of c.args.reader.now)) c.in_ok-script.ensures.ok is
     c.write_checked.ensures.printed c.write_checked.ensures.said

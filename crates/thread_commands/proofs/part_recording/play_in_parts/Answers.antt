@@ -6,7 +6,7 @@ pub returns-clause-ok : goal.returns-clause-ok
 returns-clause-ok g c = record {
   traces = c.in_ok-played.played.traces.items;
   lists = c.in_ok-played.played.lists.items;
-  faults = c.in_ok-played.played.faults.items;
+  faults = (c.in_ok-played.played.start_faults.items, c.in_ok-played.played.faults.items);
   text = string_bytes c.in_ok-text.text;
   explained = c.in_ok-text.yes;
   legal = c.in_ok-played.ensures.traces;

@@ -2,7 +2,6 @@ use Rattle.std.proofs.Common.{◌≡◌, ◌∙◌, ◌++◌, ◌∷◌, [], ap,
 use Rattle.std.specs.Prelude.{option_map}
 use Rattle.thread_plans.specs.Plans.{plan_value}
 use Rattle.thread_scripts.specs.Plays.{AreOfWork, blocks_of}
-use Rattle.thread_scripts.proofs.Numbered.{IfOk-both}
 use Rattle.thread_scripts.proofs.nodes.make_calls.Goals as goal
 
 pub returns-clause-calls : goal.returns-clause-calls
@@ -14,15 +13,15 @@ returns-clause-calls g c =
     let starts = c.in_ok-seat.receipts in
     let first : c.in_ok-finished.finished.lists.items ≡ starts ∷ [] =
     c.in_ok-finished.ensures.lists ∙ ap (λ ls. ls ++ starts ∷ []) c.new-finished.ensures.none in
-    IfOk-both c.make_calls_beside.result _ _ _
-    (λ all given calls. record {
+    let lists = c.in_ok-all.all.lists.items in
+    let faults = c.in_ok-all.faults.items in
+    record {
       starts = starts;
       refused = c.in_ok-seat.field-0-2;
-      given = given;
+      given = c.in_ok-all.ensures.given;
       started = rw c.deref.ensures.value at c.in_ok-seat.ensures.done;
-      beside = subst (λ node. AreOfWork config seed (blocks_of plan node) gossip (starts ∷ []) all.0.lists.items all.1.items)
+      beside = subst (λ node. AreOfWork config seed (blocks_of plan node) gossip (starts ∷ []) lists faults)
           c.requires.node
-          (subst (λ was. AreOfWork config seed (blocks_of plan c.args.node) gossip was all.0.lists.items all.1.items) first
-          calls);
-    })
-    c.make_calls_beside.ensures.given c.make_calls_beside.ensures.calls
+          (subst (λ was. AreOfWork config seed (blocks_of plan c.args.node) gossip was lists faults) first
+          c.in_ok-all.ensures.calls);
+    }

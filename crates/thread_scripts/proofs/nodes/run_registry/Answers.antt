@@ -1,5 +1,6 @@
 use Rattle.std.proofs.Common.{option_map, subst, sym}
 use Rattle.thread_plans.specs.Plans.{plan_value}
+use Rattle.thread_scripts.specs.Calls.{RunFaults}
 use Rattle.thread_scripts.specs.Plays.{AreOfNode}
 use Rattle.thread_scripts.proofs.nodes.run_registry.Goals as goal
 
@@ -13,6 +14,6 @@ returns-clause-lists g c =
     let plan = plan_value c.args.plan.now in
     let gossip = option_map (λ g. (g.wire, g.rounds)) c.args.job.gossip in
     let lists = c.in_ok-finished.finished.lists.items in
-    let faults = c.in_ok-finished.faults.items in
+    let faults : RunFaults = (c.in_ok-finished.start_faults.items, c.in_ok-finished.faults.items) in
     subst (λ k. AreOfNode k c.args.plan.now.seed plan gossip lists faults) (sym c.requires.config)
     (subst (λ s. AreOfNode g.L.Label.config s plan gossip lists faults) (sym c.requires.seed) c.in_ok-finished.ensures.calls)

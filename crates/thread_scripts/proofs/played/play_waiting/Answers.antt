@@ -2,6 +2,7 @@ use Rattle.std.proofs.Common.{rules, arith, ◌≡◌, ◌+◌, ◌∷◌, [], �
 use Rattle.std.specs.Vec.Iter.{into_iter_items}
 use Rattle.std.specs.declared.alloc.AllocError.{AllocError}
 use Rattle.thread_plans.specs.Plans.{plan_value}
+use Rattle.thread_scripts.specs.Calls.{RunFaults}
 use Rattle.thread_scripts.specs.Plays.{AllFrom, AreListsBelow, AreOfNode, IsTraceOf, config_at, gossip_at}
 use Rattle.thread_scripts.specs.declared.nodes.NodePlayed.{NodePlayed}
 use Rattle.thread_scripts.proofs.NodeLists.{below_more, below_none}
@@ -16,7 +17,12 @@ loop-run-init g c =
       len = search rules;
       traces = rw c.new-played.ensures.none tt;
       rest = rw (c.new-played.ensures.none, same) each;
-      lists = rw (c.new-played.ensures.none, c.new-played.ensures.no_list, c.new-played.ensures.no_fault)
+      lists = rw (
+        c.new-played.ensures.none,
+        c.new-played.ensures.no_list,
+        c.new-played.ensures.no_start_fault,
+        c.new-played.ensures.no_fault,
+      )
           (below_none (plan_value c.args.plan.now));
       rest_lists = rw (c.new-played.ensures.none, same) c.in_ok-run-items.ensures.lists;
     }
@@ -36,11 +42,13 @@ loop-run-preserved g c =
     subst (λ xs. AllFrom Q (length before) xs) steps.0 was.rest in
     let this : IsTraceOf (config_at plan (length before)) seed trace = rw c.in_ok-run.was at now.0 in
     let Q_lists : ℕ → Result NodePlayed AllocError → Type 0 = λ node run. IfOk run
-    (λ p. AreOfNode (config_at plan node) seed plan (gossip_at plan node) p.lists.items p.faults.items) in
+    (λ p. AreOfNode (config_at plan node) seed plan (gossip_at plan node) p.lists.items
+    (p.start_faults.items, p.faults.items)) in
     let now_lists : AllFrom Q_lists (length before) (c.in-Some.run' ∷ into_iter_items c.next.new.self) =
     subst (λ xs. AllFrom Q_lists (length before) xs) steps.0 was.rest_lists in
     let lists = c.in_ok-run.field-0.lists.items in
-    let faults = c.in_ok-run.field-0.faults.items in
+    let faults : RunFaults = (c.in_ok-run.field-0.start_faults.items, c.in_ok-run.field-0.faults.items) in
+    let before_now : RunFaults = (c.loop-run.played.start_faults.items, c.loop-run.played.faults.items) in
     let n = length before in
     let these : AreOfNode (config_at plan n) seed plan (gossip_at plan n) lists faults =
     rw c.in_ok-run.was at now_lists.0 in
@@ -52,8 +60,8 @@ loop-run-preserved g c =
       traces = rw more.traces (AllFrom-push _ 0 before trace was.traces
           (subst (λ k. IsTraceOf (config_at plan k) seed trace) from_0 this));
       rest = rw longer now.1;
-      lists = rw longer (below_more plan n c.loop-run.played.lists.items lists _ c.loop-run.played.faults.items faults _
-          was.lists these more.lists more.faults);
+      lists = rw longer (below_more plan n c.loop-run.played.lists.items lists _ before_now faults _
+          was.lists these more.lists more.start_faults more.faults);
       rest_lists = rw longer now_lists.1;
     }
 
@@ -63,4 +71,5 @@ returns-clause-lists g c =
     let was = c.loop-run.invariant in
     let all : length c.loop-run.played.traces.items ≡ plan.nodes =
     omega (arith, was.len, c.loop-run.played.traces.ok.0, c.in-None.ensures.steps.0) in
-    subst (λ n. AreListsBelow plan n c.loop-run.played.lists.items c.loop-run.played.faults.items) all was.lists
+    subst (λ n. AreListsBelow plan n c.loop-run.played.lists.items
+    (c.loop-run.played.start_faults.items, c.loop-run.played.faults.items)) all was.lists

@@ -13,10 +13,11 @@ invariant-loop-run g l =
       traces : AreTracesOf plan l.played.traces.items;
       rest : AllFrom (λ node run. IfOk run (λ p. IsTraceOf (config_at plan node) l.fn.plan.seed p.trace))
           (length l.played.traces.items) (into_iter_items l.run-iterator);
-      lists : AreListsBelow plan (length l.played.traces.items) l.played.lists.items l.played.faults.items;
+      lists : AreListsBelow plan (length l.played.traces.items) l.played.lists.items
+          (l.played.start_faults.items, l.played.faults.items);
       rest_lists : AllFrom
           (λ node run. IfOk run
           (λ p. AreOfNode (config_at plan node) l.fn.plan.seed plan (gossip_at plan node) p.lists.items
-          p.faults.items))
+          (p.start_faults.items, p.faults.items)))
           (length l.played.traces.items) (into_iter_items l.run-iterator);
     }

@@ -9,7 +9,7 @@ returns-clause-ok g c =
       (
         played.traces.items,
         played.lists.items,
-        played.faults.items,
+        (played.start_faults.items, played.faults.items),
         c.in_ok-played.ensures.traces,
         c.in_ok-played.ensures.lists,
         c.in_ok-text.ensures,

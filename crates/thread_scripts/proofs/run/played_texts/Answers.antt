@@ -7,7 +7,7 @@ returns-clause-ok g c =
       plan_value c.in_ok-plan.plan,
       played.traces.items,
       played.lists.items,
-      played.faults.items,
+      (played.start_faults.items, played.faults.items),
       c.in_ok-text.yes,
       c.in_ok-plan.ensures.ok,
       c.in_ok-played.ensures.traces,

@@ -1,8 +1,9 @@
-use Rattle.std.proofs.Common.{◌∙◌, ◌∷◌, [], arith, sym}
+use Rattle.std.proofs.Common.{◌∙◌, ◌∷◌, [], ap, arith, refl, sym}
 use Rattle.std.proofs.lemmas.List.{append-nil}
 use Rattle.node_registry.proofs.SeatReceipts.{given_more}
+use Rattle.thread_scripts.specs.Calls.{fault_list}
 use Rattle.thread_scripts.proofs.StartLines.{made_one, refused_one}
-use Rattle.thread_scripts.proofs.Numbered.{OnOk-map}
+use Rattle.thread_scripts.proofs.Numbered.{IfOk-map}
 use Rattle.thread_scripts.proofs.starts.make_call.Goals as goal
 
 pub returns-in_ok-push-in-Ok-clause-given : goal.returns-in_ok-push-in-Ok-clause-given
@@ -18,16 +19,19 @@ returns-in_ok-push-in-Ok-clause-made g c = (
   [],
   c.in_ok-push-in-Ok.ensures.items,
   c.in-Ok.ensures.unnoted ∙ sym (append-nil c.args.refusals.now),
+  refl,
   made_one g.L.Label.config g.L.Label.seed c.in-Ok.receipt _ _ c.in-Ok.ensures.asked c.in_ok-ask.ensures,
 )
 
 pub returns-in-Err-clause-made : goal.returns-in-Err-clause-made
 returns-in-Err-clause-made g c =
-    OnOk-map c.pass_over.result _ _
-    (λ memory. (
+    IfOk-map c.pass_over.result _ _
+    (λ why passed. (
       [],
       (c.in_ok-ask.ask, c.in-Err.fault) ∷ [],
       sym (append-nil c.args.receipts.now.items),
       c.in-Err.ensures.noted,
-      refused_one g.L.Label.config g.L.Label.seed c.in-Err.fault _ _ c.in-Err.ensures.refused memory c.in_ok-ask.ensures,
+      ap fault_list passed.0,
+      refused_one g.L.Label.config g.L.Label.seed c.in-Err.fault _ _ c.in-Err.ensures.refused passed.1
+          c.in_ok-ask.ensures,
     )) c.pass_over.ensures

@@ -8,6 +8,7 @@ abbrev pub invariant-loop-line : goal.invariant-loop-line
 invariant-loop-line g l = record {
   counted : l.seat ≡ vec_len l.receipts;
   given : AreGivenSince g.L.Label.config g.L.Label.seed 0 l.receipts.items;
-  done : AreOfStarts g.L.Label.config g.L.Label.seed (take l.line-index (map start_line_value l.starts))
-      l.receipts.items l.refusals;
+  placed : l.place ≡ l.line-index;
+  done : AreOfStarts g.L.Label.config g.L.Label.seed 0 (take l.line-index (map start_line_value l.starts))
+      l.receipts.items l.refusals l.faults.items;
 }
