@@ -1,3 +1,4 @@
 pub mod Told
 pub mod Asks
 pub mod FaultText
+pub mod FaultCodes

@@ -1,5 +1,5 @@
 -- What an entry of a trace tells, to the byte, without where it lies in memory.
-use Rattle.std.specs.Prelude.{ℕ, Bool, true, false, List, [], string_bytes, Option, Some, None}
+use Rattle.std.specs.Prelude.{ℕ, Bool, true, false, List, [], string_bytes}
 use Rattle.actions.specs.Value.{TaskValue, task_value}
 use Rattle.stamp_register.specs.declared.key.Stamp.{Stamp}
 use Rattle.node_calls.specs.declared.ask.Ask.{Ask}

@@ -1,5 +1,8 @@
 //! Why a node refuses.
 
+ghost use Rattle.std.specs.Prelude.{◌≡◌, ◌≢◌};
+ghost use Rattle.node_calls.specs.FaultCodes.{IsCoded, code_of};
+
 use actions::{ActionFault, SettingFault};
 use message_format::WireFault;
 use std::alloc::{AllocError, AllocFailed};
@@ -80,6 +83,39 @@ pub enum NodeFault {
     BadConfig,
     /// Memory was refused.
     OutOfMemory,
+}
+
+impl NodeFault {
+    /// The number of the fault's code, with which its text begins: 6 of `N6 NotSet`. None is 0.
+    #[tactic(auto, using(crate::proofs::FaultCodes::coded))]
+    pub fn code(self) -> u8
+        ensures value { result ≡ code_of self }
+        ensures text { IsCoded self }
+        ensures some { result ≢ 0 }
+    {
+        match self {
+            NodeFault::TraceFull => 1,
+            NodeFault::BadName => 2,
+            NodeFault::BadActions(_) => 3,
+            NodeFault::TooManyPoints => 4,
+            NodeFault::ClockFull => 5,
+            NodeFault::NotSet => 6,
+            NodeFault::NoSuchTerm => 7,
+            NodeFault::NotCounted => 8,
+            NodeFault::BadNode => 9,
+            NodeFault::ZeroAmount => 10,
+            NodeFault::TooFewRights { .. } => 11,
+            NodeFault::CellFull => 12,
+            NodeFault::BadWords { .. } => 14,
+            NodeFault::BadMessage(_) => 16,
+            NodeFault::NotForMe => 17,
+            NodeFault::OwnAhead => 18,
+            NodeFault::AckAhead => 19,
+            NodeFault::Overspent => 20,
+            NodeFault::BadConfig => 21,
+            NodeFault::OutOfMemory => 22,
+        }
+    }
 }
 
 impl fmt::Display for NodeFault {

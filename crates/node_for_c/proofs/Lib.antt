@@ -1,4 +1,3 @@
 pub mod AsBox
 pub mod Crossing
-mod FaultNumbers
 mod NumberedPoints

@@ -20,7 +20,8 @@ use Rattle.sharing.specs.Shares.{memory_after}
 use Rattle.stamp_register.specs.declared.key.Stamp.{Stamp}
 use Rattle.node_sharing.specs.Made.{AreMade, IsStopped, shifts_due}
 use Rattle.node_sharing.specs.Spread.{IsNotSetSpread, IsNotSpread, IsSetSpread, rights_kept, spread_due}
-use Rattle.node_for_c.specs.Numbers.{closed, no_memory, no_point, not_text, number}
+use Rattle.node_for_c.specs.Numbers.{closed, no_memory, no_point, not_text}
+use Rattle.node_calls.specs.FaultCodes.{code_of}
 use Rattle.node_for_c.specs.Told.{IsPassTold, passed_text, text_or_none}
 use Rattle.node_for_c.specs.declared.act.Act.{Act}
 use Rattle.node_for_c.specs.declared.registry.Registry.{Registry}
@@ -77,7 +78,7 @@ IsOpened config seed k =
 -- why a closed node isn't opened
 abbrev pub IsNotOpened : Config → ℕ → Type 0
 IsNotOpened config status =
-    ((status ≡ number BadConfig) × IsTrue (is_bad_config config)) ⊎
+    ((status ≡ code_of BadConfig) × IsTrue (is_bad_config config)) ⊎
     ((status ≡ no_memory) × (is_bad_config config ≡ false))
 
 -- an accepted call that draws no words: it changes the node, and nothing else
@@ -95,7 +96,7 @@ IsShared count k l =
 -- calls that changed the node were made up to one that was refused so, which is kept, and nothing else changed
 abbrev pub IsLeftBy : (NodeFault → Type 0) → ℕ → Registry → Registry → Type 0
 IsLeftBy refused status k l =
-    MatchOption l.fault ⊥ (λ f. (status ≡ number f) × refused f) × (l ≡ record k { core = l.core; fault = l.fault })
+    MatchOption l.fault ⊥ (λ f. (status ≡ code_of f) × refused f) × (l ≡ record k { core = l.core; fault = l.fault })
 
 -- a shift of a round is refused, or memory was: those before it are made
 abbrev pub IsShareStopped : ℕ → Registry → Registry → Type 0
@@ -164,7 +165,7 @@ IsSaid text k l = (said_of l ≡ text) × (l ≡ record k { said = l.said })
 -- why an ask of UTF-8 texts isn't answered by 0: out of memory, where it is needed, or the first refusal
 abbrev pub IsRefused : Kept → Asked → List ℕ → Type 0 → ℕ → Type 0
 IsRefused k ask words needs status =
-    ((status ≡ no_memory) × needs) ⊎ MatchOption (refusal k ask words) ⊥ (λ f. status ≡ number f)
+    ((status ≡ no_memory) × needs) ⊎ MatchOption (refusal k ask words) ⊥ (λ f. status ≡ code_of f)
 
 -- the same where these texts are to be UTF-8
 abbrev pub IsRefusedOf : Type 0 → Kept → Asked → List ℕ → Type 0 → ℕ → Type 0
@@ -176,7 +177,7 @@ abbrev pub IsLeft : Asked → List ℕ → ℕ → Registry → Registry → Typ
 IsLeft ask words status k l =
     (l ≡ record k { fault = l.fault }) ×
     MatchOption l.fault (status ≡ not_text)
-    (λ f. (status ≡ number f) × IsRefusalOf k.core ask words f)
+    (λ f. (status ≡ code_of f) × IsRefusalOf k.core ask words f)
 
 -- the point of a number is as a call by its name, and where there is none no call is made
 abbrev pub AtPoint : Registry → ℕ → (List ℕ → Type 0) → Type 0
@@ -205,7 +206,7 @@ HasNumber name point k l =
 abbrev pub IsNoName : List ℕ → ℕ → Type 0
 IsNoName name status =
     ((status ≡ not_text) × (IsUtf8 name → ⊥)) ⊎
-    (IsUtf8 name × (((status ≡ number BadName) × (is_name name ≡ false)) ⊎
+    (IsUtf8 name × (((status ≡ code_of BadName) × (is_name name ≡ false)) ⊎
     ((status ≡ no_memory) × (is_name name ≡ true))))
 
 -- as much of what is to be fetched as there is room for, and the rest of the room as it was

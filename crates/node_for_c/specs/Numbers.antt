@@ -1,43 +1,15 @@
--- Numbers that C is told: the status of a call, which is 0, the number of a fault, with which its text begins, or
--- one of these; stamps, and numbers that don't fit.
-use Rattle.std.specs.Prelude.{◌≡◌, ℕ, ℤ, ◌+◌, ◌*◌, ◌^◌, ◌≤ℤ◌, pos, neg_ℤ, List, ◌++◌, codes, decimal}
+-- Numbers that C is told: the status of a call, which is 0, the code of a fault, or one of these; stamps, and numbers
+-- that don't fit.
+use Rattle.std.specs.Prelude.{◌≡◌, ℕ, ℤ, ◌+◌, ◌*◌, ◌^◌, ◌≤ℤ◌, pos, neg_ℤ}
 use Rattle.stamp_register.specs.declared.key.Stamp.{Stamp}
-use Rattle.node_calls.specs.declared.fault.NodeFault.{NodeFault}
+use Rattle.node_calls.specs.FaultCodes.{code_of}
 use Rattle.node_calls.specs.declared.fault.NodeFault.TheVariants as faults
-use Rattle.node_calls.specs.FaultText.{node_fault_text}
 use Rattle.node_for_c.specs.declared.numbers.Stamped.{Stamped}
 use Rattle.node_for_c.specs.declared.numbers.Wide.{Wide}
 
-abbrev pub number : NodeFault → ℕ
-number faults.TraceFull = 1
-number faults.BadName = 2
-number (faults.BadActions _) = 3
-number faults.TooManyPoints = 4
-number faults.ClockFull = 5
-number faults.NotSet = 6
-number faults.NoSuchTerm = 7
-number faults.NotCounted = 8
-number faults.BadNode = 9
-number faults.ZeroAmount = 10
-number (faults.TooFewRights _) = 11
-number faults.CellFull = 12
-number (faults.BadWords _) = 14
-number (faults.BadMessage _) = 16
-number faults.NotForMe = 17
-number faults.OwnAhead = 18
-number faults.AckAhead = 19
-number faults.Overspent = 20
-number faults.BadConfig = 21
-number faults.OutOfMemory = 22
-
--- the text of a fault begins with `N`, its number and a space
-abbrev pub IsNumbered : NodeFault → Type 0
-IsNumbered fault =
-    (rest : List ℕ) × (node_fault_text fault ≡ codes "N" ++ decimal (number fault) ++ codes " " ++ rest)
-
 -- memory was refused
 abbrev pub no_memory : ℕ
-no_memory = number faults.OutOfMemory
+no_memory = code_of faults.OutOfMemory
 
 -- a text isn't UTF-8
 abbrev pub not_text : ℕ

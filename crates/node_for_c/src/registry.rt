@@ -10,7 +10,8 @@ ghost use Rattle.node_core.specs.Memory.{DeliveryNeedsMemory, EmitNeedsMemory, L
 ghost use Rattle.node_core.specs.Memory.{NameNeedsMemory, SetNeedsMemory};
 ghost use Rattle.node_steps.specs.Texts.{list_text};
 ghost use Rattle.node_core.specs.Traces.{call_kept, delivery_of, state_known};
-ghost use Rattle.node_for_c.specs.Numbers.{IsNumbered, no_memory, not_text, number};
+ghost use Rattle.node_for_c.specs.Numbers.{no_memory, not_text};
+ghost use Rattle.node_calls.specs.FaultCodes.{IsCoded, code_of};
 ghost use Rattle.node_for_c.specs.Told.{IsTold, no_act};
 ghost use Rattle.node_for_c.specs.Calls.{FillsFront, IsEmitted, IsLeft, IsMade, IsNoName};
 ghost use Rattle.node_for_c.specs.Calls.{IsPassedDrawing, IsPassedGiven, IsRefused, IsRefusedOf};
@@ -70,35 +71,13 @@ pub const NOT_TEXT: u32 = 30;
 /// What a number is answered that no point has.
 const NO_POINT: u32 = 33;
 
-/// The number of a fault, with which its text begins.
-#[tactic(auto, using(crate::proofs::FaultNumbers::numbered))]
+/// The status of a refused call: the number of the fault's code.
 pub fn number_of(fault: NodeFault) -> u32
-    ensures value { result ≡ number fault }
-    ensures text { IsNumbered fault }
+    ensures value { result ≡ code_of fault }
+    ensures text { IsCoded fault }
     ensures some { result ≢ 0 }
 {
-    match fault {
-        NodeFault::TraceFull => 1,
-        NodeFault::BadName => 2,
-        NodeFault::BadActions(_) => 3,
-        NodeFault::TooManyPoints => 4,
-        NodeFault::ClockFull => 5,
-        NodeFault::NotSet => 6,
-        NodeFault::NoSuchTerm => 7,
-        NodeFault::NotCounted => 8,
-        NodeFault::BadNode => 9,
-        NodeFault::ZeroAmount => 10,
-        NodeFault::TooFewRights { have: _ } => 11,
-        NodeFault::CellFull => 12,
-        NodeFault::BadWords { need: _ } => 14,
-        NodeFault::BadMessage(_) => 16,
-        NodeFault::NotForMe => 17,
-        NodeFault::OwnAhead => 18,
-        NodeFault::AckAhead => 19,
-        NodeFault::Overspent => 20,
-        NodeFault::BadConfig => 21,
-        NodeFault::OutOfMemory => 22,
-    }
+    u32::from(fault.code())
 }
 
 /// The name that bytes spell, or the status.
@@ -202,7 +181,7 @@ impl Registry {
 
     // Keeps a refusal, and answers its number.
     fn refuse(&mut self, fault: NodeFault) -> u32
-        ensures status { result ≡ number fault }
+        ensures status { result ≡ code_of fault }
         ensures some { result ≢ 0 }
         ensures left { self.new ≡ record self.old { fault = Some fault } }
     {

@@ -1,36 +1,14 @@
 -- The codes of faults, and how many calls were refused with each.
 use Rattle.std.proofs.Common.{◌≡◌, ◌∙◌, ℕ, ◌+◌, List, [], ◌∷◌, ap, cond, length, refl, sym, arith}
 use Rattle.std.specs.Prelude.{All, count_by}
-use Rattle.std.specs.Fmt.{digits}
 use Rattle.std.specs.List.{range_with_len, sum_by}
 use Rattle.std.proofs.lemmas.List.Elements.{All-cons, All-nil}
 use Rattle.std.proofs.lemmas.List.Sums.{sum_by-cons}
+use Rattle.node_calls.proofs.FaultCodes.{coded}
+use Rattle.node_calls.specs.FaultCodes.{IsCoded, codes_end}
 use Rattle.node_calls.specs.declared.fault.NodeFault.{NodeFault}
 use Rattle.node_calls.specs.declared.fault.NodeFault.TheVariants as faults
-use Rattle.thread_scripts.specs.RefusedCalls.{IsCoded, codes_end, has_code}
-
-pub coded : (fault : NodeFault) → IsCoded fault
-unfolding digits
-coded faults.TraceFull = (_, refl)
-coded faults.BadName = (_, refl)
-coded (faults.BadActions fault) = (_, refl)
-coded faults.TooManyPoints = (_, refl)
-coded faults.ClockFull = (_, refl)
-coded faults.NotSet = (_, refl)
-coded faults.NoSuchTerm = (_, refl)
-coded faults.NotCounted = (_, refl)
-coded faults.BadNode = (_, refl)
-coded faults.ZeroAmount = (_, refl)
-coded (faults.TooFewRights have) = (_, refl)
-coded faults.CellFull = (_, refl)
-coded (faults.BadWords need) = (_, refl)
-coded (faults.BadMessage fault) = (_, refl)
-coded faults.NotForMe = (_, refl)
-coded faults.OwnAhead = (_, refl)
-coded faults.AckAhead = (_, refl)
-coded faults.Overspent = (_, refl)
-coded faults.BadConfig = (_, refl)
-coded faults.OutOfMemory = (_, refl)
+use Rattle.thread_scripts.specs.RefusedCalls.{has_code}
 
 -- one number below the end is the code of a fault
 one_code : (fault : NodeFault) → sum_by (λ code. cond (has_code code fault) 1 0) (range_with_len 0 codes_end) ≡ 1

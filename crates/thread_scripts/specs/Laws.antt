@@ -7,13 +7,14 @@ use Rattle.audit.specs.Receipts.{Lists}
 use Rattle.audit.specs.Traces.{Traces}
 use Rattle.node_calls.specs.Asks.{asked_first}
 use Rattle.node_calls.specs.Told.{AskTold}
+use Rattle.node_calls.specs.FaultCodes.{IsCoded, codes_end}
 use Rattle.node_calls.specs.declared.fault.NodeFault.{NodeFault}
 use Rattle.node_steps.specs.declared.config.Config.{Config}
 use Rattle.node_steps.specs.Nodes.{Node}
 use Rattle.node_steps.specs.Refusals.{is_full, refusal_at}
 use Rattle.thread_plans.specs.Plans.{PlanValue}
 use Rattle.thread_scripts.specs.Plays.{AreTracesOf}
-use Rattle.thread_scripts.specs.RefusedCalls.{IsCoded, codes_end, has_code}
+use Rattle.thread_scripts.specs.RefusedCalls.{has_code}
 use Rattle.thread_scripts.specs.Unfit.{why_refused}
 
 -- an audit of a plan's own traces never says that a reply is wrong

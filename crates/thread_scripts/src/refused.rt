@@ -3,7 +3,7 @@
 ghost use Rattle.std.specs.Prelude.{◌≡◌, ◌++◌, count_by, IfOk, OnOk};
 ghost use Rattle.std.specs.List.{find, flat_map};
 ghost use Rattle.thread_scripts.specs.Calls.{faults_in, faults_told};
-ghost use Rattle.thread_scripts.specs.RefusedCalls.{IsCoded, calls_said, code_of, code_said, has_code};
+ghost use Rattle.thread_scripts.specs.RefusedCalls.{calls_said, code_said, has_code};
 ghost use Rattle.thread_scripts.specs.RefusedCalls.{refused_said, refused_text, rest_of};
 
 use node_core::NodeFault;
@@ -37,40 +37,10 @@ pub(crate) fn faults_of<L: Label>(
     Ok(all)
 }
 
-/// The number of a fault's code, with which its text begins.
-#[tactic(auto, using(crate::proofs::FaultCodes::coded))]
-fn code_of(fault: NodeFault) -> u8
-    ensures value { result ≡ code_of fault }
-    ensures text { IsCoded fault }
-{
-    match fault {
-        NodeFault::TraceFull => 1,
-        NodeFault::BadName => 2,
-        NodeFault::BadActions(_) => 3,
-        NodeFault::TooManyPoints => 4,
-        NodeFault::ClockFull => 5,
-        NodeFault::NotSet => 6,
-        NodeFault::NoSuchTerm => 7,
-        NodeFault::NotCounted => 8,
-        NodeFault::BadNode => 9,
-        NodeFault::ZeroAmount => 10,
-        NodeFault::TooFewRights { .. } => 11,
-        NodeFault::CellFull => 12,
-        NodeFault::BadWords { .. } => 14,
-        NodeFault::BadMessage(_) => 16,
-        NodeFault::NotForMe => 17,
-        NodeFault::OwnAhead => 18,
-        NodeFault::AckAhead => 19,
-        NodeFault::Overspent => 20,
-        NodeFault::BadConfig => 21,
-        NodeFault::OutOfMemory => 22,
-    }
-}
-
 fn has_code(code: u8, fault: NodeFault) -> bool
     ensures { result ≡ has_code code fault }
 {
-    code_of(fault) == code
+    fault.code() == code
 }
 
 fn first_with(code: u8, refused: &[NodeFault]) -> Option<NodeFault>

@@ -1,6 +1,7 @@
 use Rattle.std.proofs.Common.{◌≡◌, ◌++◌, arith, subst}
 use Rattle.std.specs.List.{flat_map, range_with_len}
-use Rattle.thread_scripts.specs.RefusedCalls.{code_said, codes_end, refused_text}
+use Rattle.node_calls.specs.FaultCodes.{codes_end}
+use Rattle.thread_scripts.specs.RefusedCalls.{code_said, refused_text}
 use Rattle.thread_scripts.proofs.ShortStarts.{one_node}
 use Rattle.thread_scripts.proofs.refused.say_refused.Goals as goal
 
