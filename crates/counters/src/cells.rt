@@ -1,7 +1,7 @@
 //! Numbers by node, 0 where there is none, and rows of them.
 
 ghost use Rattle.std.specs.Prelude.{◌≡◌, ◌≤◌, ◌+◌, ◌*◌, ◌^◌, ◌==◌, if◌then◌else◌, pos, ◌-ℤ◌};
-ghost use Rattle.std.specs.Prelude.{length, map, max, None, IfOk, IfErr, OnOk, OnErr};
+ghost use Rattle.std.specs.Prelude.{length, map, max, slice_index, None, IfOk, IfErr, OnOk, OnErr};
 ghost use Rattle.std.specs.List.{range_with_len};
 ghost use Rattle.counters.specs.Sums.{node_numbers, sum_below, sum_others, AddsEach, AreWithin};
 ghost use Rattle.counters.specs.Cells.{cell, row_cell, came_to, went_from, WritesCell, WritesRowCell};
@@ -36,12 +36,11 @@ pub(crate) fn number_in_row(rows: &Rows, from: u8, to: u8) -> u64
     }
 }
 
-// The number at a place, 0 where no node has it.
-#[tactic(auto, unfolding(crate::specs::Cells::cell))]
-fn number_at(cells: &Cells, place: usize) -> u64
-    ensures { result ≡ cell cells.now place }
+// The number at a place, 0 where there is none.
+fn number_at(numbers: &[u64], place: usize) -> u64
+    ensures { result ≡ slice_index numbers.now place }
 {
-    cells.as_slice().get(place).copied().unwrap_or(0)
+    numbers.get(place).copied().unwrap_or(0)
 }
 
 /// All numbers together.
@@ -104,9 +103,10 @@ pub(crate) fn total_of_own(rows: &Rows) -> u128
 pub(crate) fn write_numbers(cells: &Cells, numbers: &mut [u64])
     ensures { numbers.new ≡ map (cell cells.now) (range_with_len 0 (length numbers.old)) }
 {
+    let known = cells.as_slice();
     numbers.fill(0);
-    for place in 0..numbers.len().min(cells.as_slice().len()) {
-        numbers[place] = number_at(cells, place);
+    for place in 0..numbers.len().min(known.len()) {
+        numbers[place] = number_at(known, place);
     }
 }
 
@@ -116,9 +116,10 @@ pub(crate) fn write_negated(cells: &Cells, sums: &mut [i128])
         (range_with_len 0 (length sums.old)) }
     ensures small { AreWithin (2 ^ 99) sums.new }
 {
+    let numbers = cells.as_slice();
     sums.fill(0);
-    for place in 0..sums.len().min(cells.as_slice().len()) {
-        sums[place] = -i128::from(number_at(cells, place));
+    for place in 0..sums.len().min(numbers.len()) {
+        sums[place] = -i128::from(number_at(numbers, place));
     }
 }
 
@@ -128,8 +129,9 @@ fn add_numbers(cells: &Cells, sums: &mut [i128])
     ensures sums { AddsEach (λ place. pos (cell cells.now place)) sums.old sums.new }
     ensures small { AreWithin (2 ^ 101) sums.new }
 {
-    for place in 0..sums.len().min(cells.as_slice().len()) {
-        sums[place] += i128::from(number_at(cells, place));
+    let numbers = cells.as_slice();
+    for place in 0..sums.len().min(numbers.len()) {
+        sums[place] += i128::from(number_at(numbers, place));
     }
 }
 

@@ -1,10 +1,11 @@
-use Rattle.std.specs.Prelude.{◌<◌, ◌^◌, get_or, pos}
-use Rattle.std.proofs.Common.{ap, arith, length, refl, rules, ⊎_elim}
+use Rattle.std.specs.Prelude.{◌<◌, ◌^◌, get_or, pos, slice_index}
+use Rattle.std.proofs.Common.{arith, refl, rules, subst, ⊎_elim}
 use Rattle.std.proofs.lemmas.Bool.{cases_lt}
 use Rattle.std.proofs.lemmas.Int.{ints}
-use Rattle.counters.specs.Cells.{cell}
+use Rattle.counters.specs.Sums.{AddsEach}
 use Rattle.counters.proofs.Columns.{added-fits, added-is, all-added, place-added, within-places}
 use Rattle.counters.proofs.CellLemmas.{cell-past}
+use Rattle.counters.specs.Cells.{cell}
 use Rattle.counters.proofs.cells.add_numbers.Goals as goal
 
 pub loop-place-init : goal.loop-place-init
@@ -12,35 +13,39 @@ loop-place-init c = record { len = refl; done = λ i low. absurd (omega (arith, 
 
 pub overflow_add-sums : goal.overflow_add-sums
 overflow_add-sums c =
-    let cells = c.args.cells.now in
+    let numbers = c.as_slice-numbers.result.now in
     let place = c.loop-place.place in
     let was = c.loop-place.invariant.left place (omega arith) in
     let low = (c.requires place).0 in
     let high = (c.requires place).1 in
     let number = c.number_at.ensures in
-    let fits : cell cells place < 2 ^ 64 = omega (arith, number, c.number_at.type_inv) in
-    added-fits (get_or c.loop-place.sums place (pos 0)) c.from.result (cell cells place) (search rules)
+    let fits : slice_index numbers place < 2 ^ 64 = omega (arith, number, c.number_at.type_inv) in
+    added-fits (get_or c.loop-place.sums place (pos 0)) c.from.result (slice_index numbers place) (search rules)
     fits (omega (arith, ints)) (omega (arith, ints))
 
 pub loop-place-preserved : goal.loop-place-preserved
 loop-place-preserved c =
-    let cells = c.args.cells.now in
+    let numbers = c.as_slice-numbers.result.now in
     let place = c.loop-place.place in
     let was = c.loop-place.invariant.left place (omega arith) in
     let low = (c.requires place).0 in
     let high = (c.requires place).1 in
     let number = c.number_at.ensures in
-    let fits : cell cells place < 2 ^ 64 = omega (arith, number, c.number_at.type_inv) in
-    place-added (cell cells) c.args.sums.now c.loop-place.sums place _ (omega arith)
-    (added-is (get_or c.loop-place.sums place (pos 0)) c.from.result (cell cells place) (search rules)
+    let fits : slice_index numbers place < 2 ^ 64 = omega (arith, number, c.number_at.type_inv) in
+    place-added (slice_index numbers) c.args.sums.now c.loop-place.sums place _ (omega arith)
+    (added-is (get_or c.loop-place.sums place (pos 0)) c.from.result (slice_index numbers place) (search rules)
     fits (omega (arith, ints)) (omega (arith, ints)))
     fits c.loop-place.invariant
 
 pub returns-clause-sums : goal.returns-clause-sums
-returns-clause-sums c = all-added (cell c.args.cells.now) c.args.sums.now c.loop-place.sums c.loop-place.place
-    (λ i past low. cell-past c.args.cells.now i
-    (omega (arith, past, low, ap length c.as_slice.ensures.kept, c.loop-place.invariant.len)))
-    c.loop-place.invariant
+unfolding cell
+returns-clause-sums c =
+    let numbers = c.as_slice-numbers.result.now in
+    subst (λ ns. AddsEach (λ place. pos (slice_index ns place)) c.args.sums.now c.loop-place.sums)
+    c.as_slice-numbers.ensures.kept
+    (all-added (slice_index numbers) c.args.sums.now c.loop-place.sums c.loop-place.place
+    (λ i past low. cell-past numbers i (omega (arith, past, low, c.loop-place.invariant.len)))
+    c.loop-place.invariant)
 
 pub returns-clause-small : goal.returns-clause-small
 returns-clause-small c = within-places (2 ^ 101) c.loop-place.sums (λ i low.

@@ -1,12 +1,13 @@
-use Rattle.std.specs.Prelude.{◌≡◌, ◌^◌, length, get_or, replicate, pos, ◌-ℤ◌}
+use Rattle.std.specs.Prelude.{◌≡◌, ◌^◌, length, map, get_or, replicate, slice_index, pos, ◌-ℤ◌}
+use Rattle.std.specs.List.{range_with_len}
 use Rattle.std.proofs.Common.{ap, arith, refl, rules, sym, ◌∙◌, ⊎_elim}
 use Rattle.std.proofs.lemmas.Bool.{cases_lt}
 use Rattle.std.proofs.lemmas.Int.{ints}
 use Rattle.std.proofs.lemmas.List.{get_or-replicate}
 use Rattle.std.proofs.lemmas.List.FromFn.{fill_by_all}
-use Rattle.counters.specs.Cells.{cell}
 use Rattle.counters.proofs.CellLemmas.{cell-past}
 use Rattle.counters.proofs.Columns.{within-places}
+use Rattle.counters.specs.Cells.{cell}
 use Rattle.counters.proofs.cells.write_negated.Goals as goal
 
 pub loop-place-init : goal.loop-place-init
@@ -22,17 +23,18 @@ loop-place-init c =
     }
 
 pub returns-clause-sums : goal.returns-clause-sums
+unfolding cell
 returns-clause-sums c =
     let n = length c.args.sums.now in
-    let kept = ap length c.as_slice.ensures.kept in
-    fill_by_all (λ i. pos 0 -ℤ pos (cell c.args.cells.now i)) c.loop-place.sums n (pos 0)
+    let numbers = c.as_slice-numbers.result.now in
+    fill_by_all (λ i. pos 0 -ℤ pos (slice_index numbers i)) c.loop-place.sums n (pos 0)
     (c.loop-place.invariant.len ∙ c.fill.ensures.len)
     (λ i low. ⊎_elim (λ before. c.loop-place.invariant.read i before)
     (λ past. c.loop-place.invariant.left i past
     (omega (arith, low, c.loop-place.invariant.len, c.fill.ensures.len))
-    ∙ ap (λ k. pos 0 -ℤ pos k) (sym (cell-past c.args.cells.now i
-    (omega (arith, past, low, kept, c.fill.ensures.len)))))
+    ∙ ap (λ k. pos 0 -ℤ pos k) (sym (cell-past numbers i (omega (arith, past, low, c.fill.ensures.len)))))
     (cases_lt i c.loop-place.place))
+    ∙ ap (λ ns. map (λ node. pos 0 -ℤ pos (slice_index ns node)) (range_with_len 0 n)) c.as_slice-numbers.ensures.kept
 
 pub returns-clause-small : goal.returns-clause-small
 returns-clause-small c = within-places (2 ^ 99) c.loop-place.sums (λ i low. ⊎_elim

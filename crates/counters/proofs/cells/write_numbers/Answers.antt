@@ -1,10 +1,11 @@
-use Rattle.std.specs.Prelude.{◌≡◌, length, get_or, replicate}
+use Rattle.std.specs.Prelude.{◌≡◌, length, map, get_or, replicate, slice_index}
+use Rattle.std.specs.List.{range_with_len}
 use Rattle.std.proofs.Common.{ap, arith, refl, rules, sym, ◌∙◌, ⊎_elim}
 use Rattle.std.proofs.lemmas.Bool.{cases_lt}
 use Rattle.std.proofs.lemmas.List.{get_or-replicate}
 use Rattle.std.proofs.lemmas.List.FromFn.{fill_by_all}
-use Rattle.counters.specs.Cells.{cell}
 use Rattle.counters.proofs.CellLemmas.{cell-past}
+use Rattle.counters.specs.Cells.{cell}
 use Rattle.counters.proofs.cells.write_numbers.Goals as goal
 
 pub loop-place-init : goal.loop-place-init
@@ -19,13 +20,15 @@ loop-place-init c =
     }
 
 pub returns : goal.returns
+unfolding cell
 returns c =
     let n = length c.args.numbers.now in
-    let kept = ap length c.as_slice.ensures.kept in
-    fill_by_all (cell c.args.cells.now) c.loop-place.numbers n 0
+    let known = c.as_slice-known.result.now in
+    fill_by_all (slice_index known) c.loop-place.numbers n 0
     (c.loop-place.invariant.len ∙ c.fill.ensures.len)
     (λ i low. ⊎_elim (λ before. c.loop-place.invariant.read i before)
     (λ past. c.loop-place.invariant.left i past
     (omega (arith, low, c.loop-place.invariant.len, c.fill.ensures.len))
-    ∙ sym (cell-past c.args.cells.now i (omega (arith, past, low, kept, c.fill.ensures.len))))
+    ∙ sym (cell-past known i (omega (arith, past, low, c.fill.ensures.len))))
     (cases_lt i c.loop-place.place))
+    ∙ ap (λ ns. map (slice_index ns) (range_with_len 0 n)) c.as_slice-known.ensures.kept
