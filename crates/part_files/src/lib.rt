@@ -2,6 +2,7 @@
 //! which a message leaves once its line is written.
 #![tactic(auto)]
 
+mod gated_wire;
 mod part_file;
 mod recording_wire;
 

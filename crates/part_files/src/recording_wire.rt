@@ -1,11 +1,12 @@
 //! A wire of a node whose part is kept: a message leaves once its line is written.
 
-ghost use Rattle.std.specs.Prelude.{◌≡◌, is_ok, Err, OnErr, OnOk};
+ghost use Rattle.std.specs.Prelude.{◌≡◌, is_ok, Err, IfOk, OnErr, OnOk};
 ghost use Rattle.gossip.specs.Traffic.{sends};
 
+use crate::gated_wire::GatedWire;
 use gossip::{Reach, Wire, WireError};
 use node_registry::{Label, Registry};
-use part_keeper::{NotRecorded, Recorder};
+use part_keeper::{AllWritten, NotRecorded, Recorder};
 use std::alloc::Global;
 use std::sync::Wait;
 
@@ -13,7 +14,7 @@ use std::sync::Wait;
 /// them. Where they can't be written, none is sent, and no node is reached.
 #[derive(Drop)]
 pub struct RecordingWire<'a, L: Label, W> {
-    wire: W,
+    wire: GatedWire<L, W>,
     registry: &'a Registry<L>,
     recorder: &'a Recorder<L>,
     // Whether calls were still made when a node was looked for last.
@@ -26,10 +27,10 @@ impl<'a, L: Label, W> RecordingWire<'a, L, W> {
         registry: &'a Registry<L>,
         recorder: &'a Recorder<L>,
     ) -> RecordingWire<'a, L, W>
-        ensures { result.wire ≡ wire }
+        ensures { result.wire.inner ≡ wire }
     {
         RecordingWire {
-            wire,
+            wire: GatedWire::new(wire),
             registry,
             recorder,
             goes_on: true,
@@ -44,57 +45,53 @@ impl<'a, L: Label, W> RecordingWire<'a, L, W> {
         self.goes_on
     }
 
-    /// Has the lines of all calls that were made written. Where they can't be, no call is made from
-    /// then on; answers whether calls are.
-    pub fn keep<R: Wait>(&mut self, rt: &R, alloc: Global) -> bool
-        ensures { (result ≡ self.new.goes_on) × (self.new.wire ≡ self.old.wire) }
+    /// Has the lines of all calls that were made written, and hands on what shows it. Where they can't
+    /// be, no call is made from then on.
+    pub fn keep<R: Wait>(
+        &mut self,
+        rt: &R,
+        alloc: Global,
+    ) -> Result<AllWritten<'static, L>, NotRecorded>
+        ensures { (is_ok result ≡ self.new.goes_on) × (self.new.wire ≡ self.old.wire) }
     {
         let kept = self.recorder.keep(rt, alloc, self.registry);
-        self.note_kept(kept)
-    }
-
-    // Calls are still made just where the lines of those that were made are written.
-    fn note_kept(&mut self, kept: Result<(), NotRecorded>) -> bool
-        ensures value { (result ≡ is_ok kept) × (result ≡ self.new.goes_on) }
-        ensures wire { self.new.wire ≡ self.old.wire }
-    {
         self.goes_on = kept.is_ok();
-        self.goes_on
+        kept
     }
 
     /// The wire that it sends over.
     pub fn get_mut(&mut self) -> &mut W
-        ensures { result.now ≡ self.old.wire }
+        ensures { result.now ≡ self.old.wire.inner }
     {
-        &mut self.wire
+        self.wire.get_mut()
     }
 }
 
 impl<'a, L: Label, W: Wire> RecordingWire<'a, L, W> {
-    // Sends a message where the lines of all calls that were made are written, and else none.
+    // Sends a message that the recorder has handed back, and none where it hasn't.
     fn send_kept<R: Wait>(
         &mut self,
         rt: &R,
         alloc: Global,
-        kept: Result<(), NotRecorded>,
+        kept: Result<AllWritten<'_, L>, NotRecorded>,
         to: u8,
-        message: &[u8],
     ) -> Result<(), WireError>
-        ensures unwritten { OnErr kept ((result ≡ Err WireError.Failed)
+        ensures unwritten { OnErr kept.entry ((result ≡ Err WireError.Failed)
             × (self.new.wire ≡ self.old.wire)) }
-        ensures ok { OnOk result (W.traffic self.new.wire
-            ≡ sends to message.now (W.traffic self.old.wire)) }
-        ensures err { OnErr result (W.traffic self.new.wire ≡ W.traffic self.old.wire) }
+        ensures ok { IfOk kept.entry (λ written. OnOk result (W.traffic self.new.wire.inner
+            ≡ sends to written.message.now (W.traffic self.old.wire.inner))) }
+        ensures err { OnErr result
+            (W.traffic self.new.wire.inner ≡ W.traffic self.old.wire.inner) }
     {
         match kept {
-            Ok(()) => self.wire.send(rt, alloc, to, message),
+            Ok(written) => self.wire.send(rt, alloc, written, to),
             Err(_) => Err(WireError::Failed),
         }
     }
 }
 
 impl<'a, L: Label, W: Wire> Wire for RecordingWire<'a, L, W> {
-    ghost traffic = { λ w. W.traffic w.wire };
+    ghost traffic = { λ w. W.traffic w.wire.inner };
 
     fn send<R: Wait>(
         &mut self,
@@ -103,8 +100,8 @@ impl<'a, L: Label, W: Wire> Wire for RecordingWire<'a, L, W> {
         to: u8,
         message: &[u8],
     ) -> Result<(), WireError> {
-        let kept = self.recorder.keep(rt, alloc, self.registry);
-        self.send_kept(rt, alloc, kept, to, message)
+        let kept = self.recorder.keep_before(rt, alloc, self.registry, message);
+        self.send_kept(rt, alloc, kept, to)
     }
 
     fn take<R: Wait>(&mut self, rt: &R, alloc: Global) -> Result<Option<Vec<u8>>, WireError> {
@@ -115,7 +112,7 @@ impl<'a, L: Label, W: Wire> Wire for RecordingWire<'a, L, W> {
 impl<'a, L: Label, W: Reach> Reach for RecordingWire<'a, L, W> {
     ghost use Rattle.std.specs.Prelude.{◌&&◌};
 
-    ghost reached = { λ w node. w.goes_on && W.reached w.wire node };
+    ghost reached = { λ w node. w.goes_on && W.reached w.wire.inner node };
 
     fn reaches<R: Wait>(&mut self, rt: &R, alloc: Global, to: u8) -> bool {
         self.look(rt) && self.wire.reaches(rt, alloc, to)

@@ -13,5 +13,5 @@ pub use fault::{CallFault, LineFault, NotRecorded, PartFault};
 pub use lines::{PartLines, lines_of};
 pub use part_file::PartFile;
 pub use recorder::Recorder;
-pub use recording::Recording;
+pub use recording::{AllWritten, Recording};
 pub use repeating::{MOST_OF_LINE, Repeated, repeat_call, repeat_calls};

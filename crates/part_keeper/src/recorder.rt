@@ -6,7 +6,7 @@ ghost use Rattle.part_keeper.specs.Kept.{IsUnanswered};
 
 use crate::fault::{CallFault, NotRecorded};
 use crate::part_file::PartFile;
-use crate::recording::Recording;
+use crate::recording::{AllWritten, Recording};
 use node_core::{Ask, Reply};
 use node_registry::{Label, Registry};
 use std::alloc::Global;
@@ -57,8 +57,22 @@ impl<L: Label> Recorder<L> {
         rt: &R,
         alloc: Global,
         registry: &Registry<L>,
-    ) -> Result<(), NotRecorded> {
+    ) -> Result<AllWritten<'static, L>, NotRecorded> {
         let mut recording = self.lock.lock(rt);
         recording.keep(rt, alloc, registry)
+    }
+
+    /// Writes them before a message leaves, and hands it back, as `Recording::keep_before` does.
+    pub fn keep_before<'m, R: Wait>(
+        &self,
+        rt: &R,
+        alloc: Global,
+        registry: &Registry<L>,
+        message: &'m [u8],
+    ) -> Result<AllWritten<'m, L>, NotRecorded>
+        ensures { IfOk result (λ written. written.message.now ≡ message.now) }
+    {
+        let mut recording = self.lock.lock(rt);
+        recording.keep_before(rt, alloc, registry, message)
     }
 }

@@ -16,6 +16,7 @@ use node_core::{Ask, Entry, Receipt, Reply, Seen};
 use node_registry::{Batch, Label, Piece, Registry, Seat};
 use std::alloc::Global;
 use std::io::Write;
+use std::marker::PhantomData;
 use std::sync::Wait;
 
 // The random draws of a call.
@@ -46,6 +47,24 @@ fn has_call(piece: &Piece, receipt: &Receipt) -> bool
     match piece.trace.at(place as usize) {
         Some(call) => is_told(call, &receipt.entry),
         None => false,
+    }
+}
+
+/// A message that the recording of a node has handed back, which it does once the lines of all calls that
+/// the node had accepted are written. Nobody else makes one, and each is had once: who sends messages of
+/// such a node takes it in place of the message.
+#[derive(Drop)]
+pub struct AllWritten<'m, L: Label> {
+    message: &'m [u8],
+    of: PhantomData<L>,
+}
+
+impl<'m, L: Label> AllWritten<'m, L> {
+    /// The message, which may leave now.
+    pub fn into_message(self) -> &'m [u8]
+        ensures { result.now ≡ self.entry.message.now }
+    {
+        self.message
     }
 }
 
@@ -151,25 +170,50 @@ impl<L: Label, W: Write> Recording<L, W> {
         }
         let answer = registry.make_batch(rt, alloc, &mut self.seat, batch);
         match self.keep(rt, alloc, registry) {
-            Ok(()) => Ok(answer),
+            Ok(_) => Ok(answer),
             Err(_) => Err(CallFault::NotRecorded),
         }
     }
 
-    /// Writes the lines of all calls that were made so far and aren't written yet.
+    /// Writes the lines of all calls that were made so far and aren't written yet, and answers what shows
+    /// it, with no message.
     pub fn keep<R: Wait>(
         &mut self,
         rt: &R,
         alloc: Global,
         registry: &Registry<L>,
-    ) -> Result<(), NotRecorded>
+    ) -> Result<AllWritten<'static, L>, NotRecorded>
         ensures kept { OnOk result ((c : Cell) × (piece : Piece)
             × IsCellSince L.config L.seed L.keeps L.parts self.old.seat c × IsPieceOf c piece
             × Records W.contents (out_of self.old) (out_of self.new) piece.trace.calls) }
         ensures failed { IsErr result ↔ (self.new.lines.has_failed ≡ true) }
         ensures seat { self.new.seat ≡ self.old.seat }
     {
+        self.keep_before(rt, alloc, registry, b"")
+    }
+
+    /// Writes them before a message leaves that the node has made, and hands it back then.
+    pub fn keep_before<'m, R: Wait>(
+        &mut self,
+        rt: &R,
+        alloc: Global,
+        registry: &Registry<L>,
+        message: &'m [u8],
+    ) -> Result<AllWritten<'m, L>, NotRecorded>
+        ensures kept { OnOk result ((c : Cell) × (piece : Piece)
+            × IsCellSince L.config L.seed L.keeps L.parts self.old.seat c × IsPieceOf c piece
+            × Records W.contents (out_of self.old) (out_of self.new) piece.trace.calls) }
+        ensures handed { IfOk result (λ written. written.message.now ≡ message.now) }
+        ensures failed { IsErr result ↔ (self.new.lines.has_failed ≡ true) }
+        ensures seat { self.new.seat ≡ self.old.seat }
+    {
         let piece = registry.give(rt, alloc, &mut self.seat);
-        self.lines.keep(alloc, &piece.trace)
+        match self.lines.keep(alloc, &piece.trace) {
+            Ok(()) => Ok(AllWritten {
+                message,
+                of: PhantomData,
+            }),
+            Err(fault) => Err(fault),
+        }
     }
 }
