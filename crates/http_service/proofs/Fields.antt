@@ -1,23 +1,27 @@
--- The fields of a reply, as they are put in one behind the other.
-use Rattle.std.proofs.Common.{◌≡◌, ◌∙◌, ap, [], Bool, Option, codes}
+-- Fields of a reply, as they are put in one behind the other.
+use Rattle.std.proofs.Common.{◌≡◌, ◌∙◌, ap, ap₂, [], codes}
 use Rattle.http_header.specs.FieldValue.{FieldValue, plain_value}
 use Rattle.http_header.specs.HeaderMap.{Entries, insert}
-use Rattle.http_service.specs.Labels.{content_text, label_fields, with_challenge, with_methods, with_policy_of, with_tag}
+use Rattle.operator_page.specs.declared.page.TheConstants.{POLICY}
+use Rattle.http_service.specs.Labels.{content_text, type_fields, with_policy}
 use Rattle.http_service.specs.declared.labels.Content.{Content}
-use Rattle.http_service.specs.declared.labels.Methods.{Methods}
-use Rattle.http_service.specs.declared.labels.Tagging.{Tagging}
 
-pub fields_put : (content : Content) (methods : Option Methods) (asks : Bool) (tagging : Tagging)
-    (tag : Option FieldValue) (none typed safe held allowed told tagged : Entries FieldValue) (kind nosniff : FieldValue) → none ≡ [] → kind ≡ plain_value (content_text content)
-    → typed ≡ insert none (codes "content-type") kind → nosniff ≡ plain_value (codes "nosniff")
-    → safe ≡ insert typed (codes "x-content-type-options") nosniff → held ≡ with_policy_of content safe
-    → allowed ≡ with_methods methods held → told ≡ with_challenge asks allowed → tagged ≡ with_tag tag told
-    → tagged ≡ with_tag tag
-    (label_fields (record { content = content; methods = methods; asks_for_key = asks; tagging = tagging }))
-fields_put content methods asks tagging tag none typed safe held allowed told tagged kind nosniff e0 ek e1 en e2 e3 e4 e5 e6 =
+pub types_put : (content : Content) (none typed safe : Entries FieldValue) (kind nosniff : FieldValue) → none ≡ []
+    → kind ≡ plain_value (content_text content) → typed ≡ insert none (codes "content-type") kind
+    → nosniff ≡ plain_value (codes "nosniff") → safe ≡ insert typed (codes "x-content-type-options") nosniff
+    → safe ≡ type_fields content
+types_put content none typed safe kind nosniff e0 ek e1 en e2 =
     let t = e1 ∙ ap (λ f. insert f (codes "content-type") kind) e0 ∙ ap (λ v. insert [] (codes "content-type") v) ek in
-    let s = e2 ∙ ap (λ f. insert f (codes "x-content-type-options") nosniff) t
+    e2 ∙ ap (λ f. insert f (codes "x-content-type-options") nosniff) t
     ∙ ap (λ v. insert (insert [] (codes "content-type") (plain_value (content_text content)))
-    (codes "x-content-type-options") v) en in
-    e6 ∙ ap (with_tag tag)
-    (e5 ∙ ap (with_challenge asks) (e4 ∙ ap (with_methods methods) (e3 ∙ ap (with_policy_of content) s)))
+    (codes "x-content-type-options") v) en
+
+pub policy_put : (fields first second all : Entries FieldValue) (policy store referrer : FieldValue)
+    → policy ≡ plain_value POLICY.now → first ≡ insert fields (codes "content-security-policy") policy
+    → store ≡ plain_value (codes "no-store") → second ≡ insert first (codes "cache-control") store
+    → referrer ≡ plain_value (codes "no-referrer") → all ≡ insert second (codes "referrer-policy") referrer
+    → all ≡ with_policy fields
+policy_put fields first second all policy store referrer e1 e2 e3 e4 e5 e6 =
+    e6 ∙ ap₂ (λ (f : Entries FieldValue) (v : FieldValue). insert f (codes "referrer-policy") v)
+    (e4 ∙ ap₂ (λ (f : Entries FieldValue) (v : FieldValue). insert f (codes "cache-control") v)
+    (e2 ∙ ap (λ v. insert fields (codes "content-security-policy") v) e1) e3) e5

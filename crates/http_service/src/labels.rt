@@ -1,12 +1,12 @@
 //! What the header fields of a reply say.
 
-ghost use Rattle.std.specs.Prelude.{◌≡◌, [], codes, IfOk, OnOk, option_map};
+ghost use Rattle.std.specs.Prelude.{◌≡◌, [], codes, IfOk, option_map};
 ghost use Rattle.http_header.specs.HeaderMap.{insert};
 ghost use Rattle.http_header.specs.FieldValue.{plain_value};
 ghost use Rattle.http_paths.specs.Targets.{target_value};
 ghost use Rattle.http_service.specs.Labels.{content_at, content_text, label_fields, labels_of};
 ghost use Rattle.http_service.specs.Labels.{methods_of, methods_text, plain_labels, with_methods};
-ghost use Rattle.http_service.specs.Labels.{tagging_at, with_challenge, with_policy};
+ghost use Rattle.http_service.specs.Labels.{tagging_at, type_fields, with_challenge, with_policy};
 ghost use Rattle.http_service.specs.Labels.{with_policy_of, with_tag};
 
 use http::header::{
@@ -99,15 +99,17 @@ impl Labels {
     ) -> Result<HeaderMap, AllocError>
         ensures { IfOk result (λ fields. fields ≡ with_tag tag (label_fields self)) }
     {
-        let mut fields = HeaderMap::new(alloc);
-        put(&mut fields, CONTENT_TYPE, self.content.value())?;
-        let nosniff = HeaderValue::from_static("nosniff");
-        put(&mut fields, X_CONTENT_TYPE_OPTIONS, nosniff)?;
-        put_policy_of(&mut fields, self.content)?;
-        put_methods(&mut fields, self.methods)?;
-        put_challenge(&mut fields, self.asks_for_key)?;
-        put_tag(&mut fields, tag)?;
-        Ok(fields)
+        with_tag(self.untagged_fields(alloc)?, tag)
+    }
+
+    // Those of a body without a tag.
+    fn untagged_fields(self, alloc: Global) -> Result<HeaderMap, AllocError>
+        ensures { IfOk result (λ fields. fields ≡ label_fields self) }
+    {
+        let fields = type_fields(alloc, self.content)?;
+        let fields = with_policy_of(fields, self.content)?;
+        let fields = with_methods(fields, self.methods)?;
+        with_challenge(fields, self.asks_for_key)
     }
 }
 
@@ -116,9 +118,7 @@ impl Labels {
 pub(crate) fn tag_alone(alloc: Global, tag: HeaderValue) -> Result<HeaderMap, AllocError>
     ensures { IfOk result (λ fields. fields ≡ insert [] (codes "etag") tag) }
 {
-    let mut fields = HeaderMap::new(alloc);
-    put(&mut fields, ETAG, tag)?;
-    Ok(fields)
+    with_field(HeaderMap::new(alloc), ETAG, tag)
 }
 
 impl Content {
@@ -176,64 +176,77 @@ fn methods_at(target: &Target<'_>) -> Methods
     }
 }
 
-// The methods, if they are told. Out of memory is the only error.
-fn put_methods(fields: &mut HeaderMap, methods: Option<Methods>) -> Result<(), AllocError>
-    ensures { OnOk result (fields.new ≡ with_methods methods fields.old) }
+// What a body is. Out of memory is the only error here, and of all that follow.
+fn type_fields(alloc: Global, content: Content) -> Result<HeaderMap, AllocError>
+    ensures { IfOk result (λ fields. fields ≡ type_fields content) }
 {
-    match methods {
-        None => Ok(()),
-        Some(methods) => put(fields, ALLOW, methods.value()),
-    }
+    let fields = with_field(HeaderMap::new(alloc), CONTENT_TYPE, content.value())?;
+    let nosniff = HeaderValue::from_static("nosniff");
+    with_field(fields, X_CONTENT_TYPE_OPTIONS, nosniff)
 }
 
-// That a key has to be sent, and how. Out of memory is the only error.
-fn put_challenge(fields: &mut HeaderMap, asks_for_key: bool) -> Result<(), AllocError>
-    ensures { OnOk result (fields.new ≡ with_challenge asks_for_key fields.old) }
-{
-    if asks_for_key {
-        put(fields, WWW_AUTHENTICATE, HeaderValue::from_static("Bearer"))
-    } else {
-        Ok(())
-    }
-}
-
-// The tag of the body, if it has one. Out of memory is the only error.
-fn put_tag(fields: &mut HeaderMap, tag: Option<HeaderValue>) -> Result<(), AllocError>
-    ensures { OnOk result (fields.new ≡ with_tag tag fields.old) }
-{
-    match tag {
-        None => Ok(()),
-        Some(tag) => put(fields, ETAG, tag),
-    }
-}
-
-// What a browser is to hold a body to. Out of memory is the only error.
-fn put_policy_of(fields: &mut HeaderMap, content: Content) -> Result<(), AllocError>
-    ensures { OnOk result (fields.new ≡ with_policy_of content fields.old) }
+// Fields, and what a browser is to hold a body to.
+fn with_policy_of(fields: HeaderMap, content: Content) -> Result<HeaderMap, AllocError>
+    ensures { IfOk result (λ all. all ≡ with_policy_of content fields) }
 {
     match content {
-        Content::Text | Content::Json => Ok(()),
-        Content::Page => put_policy(fields),
+        Content::Text | Content::Json => Ok(fields),
+        Content::Page => with_policy(fields),
     }
 }
 
-// The same of a page. Out of memory is the only error.
-fn put_policy(fields: &mut HeaderMap) -> Result<(), AllocError>
-    ensures { OnOk result (fields.new ≡ with_policy fields.old) }
+// The same of a page.
+fn with_policy(fields: HeaderMap) -> Result<HeaderMap, AllocError>
+    ensures { IfOk result (λ all. all ≡ with_policy fields) }
 {
     let policy = HeaderValue::from_static(POLICY);
-    put(fields, CONTENT_SECURITY_POLICY, policy)?;
-    put(fields, CACHE_CONTROL, HeaderValue::from_static("no-store"))?;
+    let fields = with_field(fields, CONTENT_SECURITY_POLICY, policy)?;
+    let fields = with_field(fields, CACHE_CONTROL, HeaderValue::from_static("no-store"))?;
     let no_referrer = HeaderValue::from_static("no-referrer");
-    put(fields, REFERRER_POLICY, no_referrer)
+    with_field(fields, REFERRER_POLICY, no_referrer)
 }
 
-// Out of memory is the only error.
-fn put(fields: &mut HeaderMap, name: HeaderName, value: HeaderValue) -> Result<(), AllocError>
-    ensures { OnOk result (fields.new ≡ insert fields.old name value) }
+// Fields, and the methods, if they are told.
+fn with_methods(fields: HeaderMap, methods: Option<Methods>) -> Result<HeaderMap, AllocError>
+    ensures { IfOk result (λ all. all ≡ with_methods methods fields) }
+{
+    match methods {
+        None => Ok(fields),
+        Some(methods) => with_field(fields, ALLOW, methods.value()),
+    }
+}
+
+// Fields, and that a key has to be sent, and how.
+fn with_challenge(fields: HeaderMap, asks_for_key: bool) -> Result<HeaderMap, AllocError>
+    ensures { IfOk result (λ all. all ≡ with_challenge asks_for_key fields) }
+{
+    if asks_for_key {
+        with_field(fields, WWW_AUTHENTICATE, HeaderValue::from_static("Bearer"))
+    } else {
+        Ok(fields)
+    }
+}
+
+// Fields, and the tag of the body, if it has one.
+fn with_tag(fields: HeaderMap, tag: Option<HeaderValue>) -> Result<HeaderMap, AllocError>
+    ensures { IfOk result (λ all. all ≡ with_tag tag fields) }
+{
+    match tag {
+        None => Ok(fields),
+        Some(tag) => with_field(fields, ETAG, tag),
+    }
+}
+
+// Fields, and one more. They are handed on, so that an error on the way drops nothing.
+fn with_field(
+    mut fields: HeaderMap,
+    name: HeaderName,
+    value: HeaderValue,
+) -> Result<HeaderMap, AllocError>
+    ensures { IfOk result (λ all. all ≡ insert fields name value) }
 {
     match fields.insert(name, value) {
-        Ok(_) => Ok(()),
+        Ok(_) => Ok(fields),
         Err(_) => Err(AllocError),
     }
 }
