@@ -1,3 +1,4 @@
+mod Delays
 mod Endings
 mod Exchanges
 mod Fields

@@ -1,7 +1,10 @@
 use Rattle.std.proofs.Common.{rules}
 use Rattle.http_service.specs.Exchanges.{pieces_of}
-use Rattle.http_service.proofs.Exchanges.{ends_by, ends_later, goes_by, goes_on_more, goes_on_within}
+use Rattle.http_service.proofs.Exchanges.{ends_by, ends_later, goes_by, goes_on_more, goes_on_none, goes_on_within}
 use Rattle.http_service.proofs.exchange.poll_body.Goals as goal
+
+pub loop-init : goal.loop-init
+loop-init g c = (goes_on_none (pieces_of c.args.body.now) c.args.read.now.items, search rules)
 
 pub returns-in-loop-clause-goes_on : goal.returns-in-loop-clause-goes_on
 returns-in-loop-clause-goes_on g c =
