@@ -1,6 +1,8 @@
 //! Connections beside each other, each in a task of its own.
 
 ghost use Rattle.std.specs.Prelude.{◌≡◌, ◌<◌, ◌≤◌, ◌↔◌, IsTrue, IfSome};
+ghost use Rattle.futures.specs.Poll.{OnPending};
+ghost use Rattle.futures.specs.Task.{IsArmed, Keeps};
 ghost use Rattle.tokio.specs.Timers.{IsDelayedBy, sleep_deadline, timeout_delay, timeout_future};
 ghost use Rattle.tokio.specs.Locks.{CanAcquire};
 ghost use Rattle.http_service.specs.Clients.{AreLetIn, IsGone, LetsIn};
@@ -9,7 +11,7 @@ use crate::fault::ServeFault;
 use crate::permits::{AllBack, Permits};
 use futures::executor::TaskSet;
 use futures::task::{Context, Poll};
-use futures::{Future, Stream, ready};
+use futures::{Future, ready};
 use std::io;
 use std::io::ErrorKind;
 use std::net::SocketAddr;
@@ -175,6 +177,18 @@ fn let_in(came: io::Result<(TcpStream, SocketAddr)>, clients: &mut Clients) -> C
     }
 }
 
+// Waits for a rest to end, if there is one.
+fn poll_rest(rest: &mut Option<Sleep>, cx: &mut Context<'_>) -> Poll<()>
+    ensures armed { OnPending result (IsArmed cx.new) }
+    ensures kept { Keeps cx.old cx.new }
+{
+    if let Some(sleep) = rest {
+        let _ = ready!(sleep.poll(cx));
+        *rest = None;
+    }
+    Poll::Ready(())
+}
+
 impl<F: ConnectionFactory> Future for Accepting<'_, F> {
     type Output = Result<Clients, ServeFault>;
 
@@ -188,34 +202,28 @@ impl<F: ConnectionFactory> Future for Accepting<'_, F> {
             if self.clients.count() == self.wanted {
                 return Poll::Ready(Ok(self.clients));
             }
-            if let Some(rest) = &mut self.rest {
-                let _ = ready!(rest.poll(cx));
-                self.rest = None;
-            }
-            if self.permit.is_none() {
-                let Some(permit) = ready!(self.permits.poll_next(cx)) else {
-                    return Poll::Ready(Err(ServeFault::OutOfMemory));
-                };
-                self.permit = Some(permit);
+            ready!(poll_rest(&mut self.rest, cx));
+            if !ready!(self.permits.poll_into(&mut self.permit, cx)) {
+                return Poll::Ready(Err(ServeFault::OutOfMemory));
             }
             let came = ready!(self.listener.poll_accept(cx));
-            let socket = match let_in(came, &mut self.clients) {
-                Came::Client(socket) => socket,
-                Came::Gone => continue,
-                // The permit stays for the next that can be.
-                Came::Later => match self.factory.rest() {
-                    Some(rest) => {
-                        self.rest = Some(rest);
-                        continue;
+            match let_in(came, &mut self.clients) {
+                Came::Client(socket) => {
+                    // Without memory for its task the connection is closed, and counts as served.
+                    if let Some(permit) = self.permit.take()
+                        && let Some(task) = self.factory.open(socket, permit)
+                    {
+                        let _ = self.tasks.spawn(task);
                     }
-                    None => return cx.yield_now(),
-                },
-            };
-            // Without memory for its task the connection is closed, and counts as served.
-            if let Some(permit) = self.permit.take()
-                && let Some(task) = self.factory.open(socket, permit)
-            {
-                let _ = self.tasks.spawn(task);
+                }
+                Came::Gone => {}
+                Came::Later => {
+                    // The permit stays for the next that can be.
+                    self.rest = self.factory.rest();
+                    if self.rest.is_none() {
+                        return cx.yield_now();
+                    }
+                }
             }
         }
         cx.yield_now()

@@ -1,7 +1,9 @@
 //! Permits of which there are only so many at once.
 
-ghost use Rattle.std.specs.Prelude.{◌≡◌, max, IfOk, IfSome, None};
+ghost use Rattle.std.specs.Prelude.{◌≡◌, true, max, IfOk, IfSome, None};
 ghost use Rattle.std.specs.Arc.{arc_value};
+ghost use Rattle.futures.specs.Poll.{IfReady, OnPending};
+ghost use Rattle.futures.specs.Task.{IsArmed, Keeps};
 ghost use Rattle.tokio.specs.Locks.{CanAcquire};
 
 use futures::task::{Context, Poll};
@@ -46,6 +48,31 @@ impl Permits {
             count: self.count,
             waiting: None,
         })
+    }
+
+    /// Waits for a permit in this place, unless one is there. `false` where there is no memory for it.
+    pub fn poll_into(
+        &mut self,
+        place: &mut Option<OwnedSemaphorePermit>,
+        cx: &mut Context<'_>,
+    ) -> Poll<bool>
+        requires { IfSome self.old.waiting CanAcquire }
+        ensures goes { IfReady result
+            (λ is_there. is_there ≡ true → IfSome self.new.waiting CanAcquire) }
+        ensures again { OnPending result (IfSome self.new.waiting CanAcquire) }
+        ensures armed { OnPending result (IsArmed cx.new) }
+        ensures kept { Keeps cx.old cx.new }
+    {
+        if place.is_some() {
+            return Poll::Ready(true);
+        }
+        match ready!(self.poll_next(cx)) {
+            Some(permit) => {
+                *place = Some(permit);
+                Poll::Ready(true)
+            }
+            None => Poll::Ready(false),
+        }
     }
 
     /// Waits until each of them is back. `None` where there is no memory.
