@@ -112,12 +112,13 @@ where
             ≡ self.now.access.page) }
         ensures port { IfSome result (λ c. c.served.conn.service.port ≡ self.now.port) }
     {
+        let access = self.access.again()?;
         let service = ConnectionService {
             alloc: self.alloc,
             rt: self.rt,
             handler: Arc::try_clone(&self.handler).ok(),
             long: self.long.again(),
-            access: self.access.again()?,
+            access,
             port: self.port,
         };
         Some(HttpConnection {
@@ -289,6 +290,35 @@ where
     ensures read { IfOk result (λ f. f.http.config.max_buf_size ≡ READ_AT_ONCE) }
     ensures err { IfErr result (λ f. (f ≡ AcceptFailed) ⊎ (f ≡ OutOfMemory)) }
 {
+    let http = builder_of(rt, alloc, runtime)?;
+    let timers = runtime.handle().time().clone()?;
+    let long = Permits::new(alloc, LONG_AT_ONCE)?;
+    Ok(HttpConnections {
+        alloc,
+        rt: *rt,
+        handler,
+        long,
+        access,
+        port,
+        http,
+        timers,
+    })
+}
+
+// Makes a connection over HTTP of a socket: with one request, whose head has its time.
+fn builder_of<R>(
+    rt: &R,
+    alloc: Global,
+    runtime: &Runtime,
+) -> Result<Builder<TokioTimer<R>>, ServeFault>
+where
+    R: Clock + RandomSource + Copy,
+    ensures keep_alive { IfOk result (λ http. IsFalse http.options.keep_alive) }
+    ensures head { IfOk result (λ http. IsSomeAnd http.options.header_read_timeout
+        (λ head. as_nanos head ≡ HEAD_SECONDS * 1_000_000_000)) }
+    ensures read { IfOk result (λ http. http.config.max_buf_size ≡ READ_AT_ONCE) }
+    ensures err { IfErr result (λ f. (f ≡ AcceptFailed) ⊎ (f ≡ OutOfMemory)) }
+{
     let Ok(keys) = RandomState::new(rt) else {
         return Err(ServeFault::AcceptFailed);
     };
@@ -297,16 +327,7 @@ where
     http.keep_alive(false)
         .header_read_timeout(Some(Duration::from_secs(HEAD_SECONDS)))
         .max_buf_size(READ_AT_ONCE);
-    Ok(HttpConnections {
-        alloc,
-        rt: *rt,
-        handler,
-        long: Permits::new(alloc, LONG_AT_ONCE)?,
-        access,
-        port,
-        http,
-        timers: runtime.handle().time().clone()?,
-    })
+    Ok(http)
 }
 
 // A set for the tasks of connections.
