@@ -36,14 +36,14 @@ impl From<AllocError> for KeyFault {
 }
 
 /// Whether a service has the operator's page, which anybody may see.
-#[derive(Clone, Copy, Debug, PartialEq, Eq)]
+#[derive(Clone, Copy)]
 pub enum Page {
     Shown,
     Absent,
 }
 
 /// Whether a request needs the key of a service that has one.
-#[derive(Clone, Copy, Debug, PartialEq, Eq)]
+#[derive(Clone, Copy)]
 pub enum KeyNeed {
     Needed,
     Waived,

@@ -21,7 +21,7 @@ use std::alloc::Global;
 use std::str;
 
 /// Why nothing is asked of the handler.
-#[derive(Clone, Copy, Debug, PartialEq, Eq)]
+#[derive(Clone, Copy, PartialEq, Eq)]
 pub enum Refusal {
     /// The service has a key, and the `Authorization` isn't the one with it.
     NoKey,
