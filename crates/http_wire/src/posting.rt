@@ -89,6 +89,28 @@ where
     }
 }
 
+// What a future gives that another one has to run beside, where both end before the deadline.
+fn output_beside<R, F, G>(
+    rt: &R,
+    runtime: &mut LocalRuntime,
+    future: F,
+    other: G,
+    deadline: Instant,
+) -> Result<F::Output, WireError>
+where
+    R: Wait + Clock + RandomSource + AllocGlobal,
+    F: Future + Drop,
+    F::Output: Drop,
+    G: Future + Drop,
+    G::Output: Drop,
+    requires future { F.can_poll future }
+    requires other { G.can_poll other }
+    ensures { IfErr result IsFailure }
+{
+    let (output, _other) = output_of(rt, runtime, join(future, other), deadline)?;
+    Ok(output)
+}
+
 /// A connection to the address of a peer, and until when what is posted over it is to be answered.
 #[derive(Drop)]
 pub struct Connection {
@@ -166,26 +188,42 @@ where
         stream,
         deadline,
     } = connection;
-    let keys = RandomState::new(rt).map_err(failed)?;
-    let Ok((mut sender, connection)) = handshake(alloc, keys, stream) else {
-        return Err(WireError::Failed);
-    };
     let posted = Posted {
         peer,
         request: Snapshot::of(&request),
     };
-    let reply = sender.send_request(request);
-    drop(sender);
-    let (reply, _connection) = output_of(rt, runtime, join(reply, connection), deadline)?;
-    let Ok(reply) = reply else {
-        return Err(WireError::Failed);
-    };
+    let reply = reply_to(rt, alloc, runtime, stream, request, deadline)?;
     let status = reply.status();
     Ok(Exchanged {
         posted,
         status,
         says: said_in(rt, runtime, reply, deadline),
     })
+}
+
+// The reply to a request over a stream, which is over by then.
+fn reply_to<R>(
+    rt: &R,
+    alloc: Global,
+    runtime: &mut LocalRuntime,
+    stream: TcpStream,
+    request: Request<Full<Bytes>>,
+    deadline: Instant,
+) -> Result<Response<Incoming<TcpStream>>, WireError>
+where
+    R: Wait + Clock + RandomSource + AllocGlobal,
+    ensures { IfErr result IsFailure }
+{
+    let keys = RandomState::new(rt).map_err(failed)?;
+    let Ok((mut sender, connection)) = handshake(alloc, keys, stream) else {
+        return Err(WireError::Failed);
+    };
+    let reply = sender.send_request(request);
+    drop(sender);
+    match output_beside(rt, runtime, reply, connection, deadline)? {
+        Ok(reply) => Ok(reply),
+        Err(_) => Err(WireError::Failed),
+    }
 }
 
 // What a reply says of the peer. The connection is over by then, and what came of the body is there.
