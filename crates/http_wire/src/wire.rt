@@ -51,6 +51,19 @@ pub struct HttpWire<R> {
     forgetful: Vec<Forgetful>,
 }
 
+// Keeps what the answer of a node says of it, unless that is kept already.
+fn hear(forgetful: &mut Vec<Forgetful>, node: u8, says: Option<Forgetting>)
+    ensures { HasHeardOf node forgetful.old.items forgetful.new.items }
+{
+    let Some(fault) = says else {
+        return;
+    };
+    if !forgetful.iter().any(|other| other.node == node) {
+        // Without memory for it it isn't heard.
+        let _ = forgetful.push(Forgetful { node, fault });
+    }
+}
+
 impl<R> HttpWire<R> {
     // The address of a node's server: of two, the first.
     fn address_of(&self, node: u8) -> Option<SocketAddr>
@@ -58,21 +71,6 @@ impl<R> HttpWire<R> {
     {
         let peer = self.peers.iter().find(|peer| peer.node == node)?;
         Some(peer.address)
-    }
-
-    // Keeps what the answer of a node says of it, unless that is kept already.
-    fn hear(&mut self, node: u8, says: Option<Forgetting>)
-        ensures stays { (self.new.peers ≡ self.old.peers) × (self.new.sent ≡ self.old.sent) }
-        ensures key { self.new.key ≡ self.old.key }
-        ensures heard { HasHeardOf node self.old.forgetful.items self.new.forgetful.items }
-    {
-        let Some(fault) = says else {
-            return;
-        };
-        if !self.forgetful.iter().any(|other| other.node == node) {
-            // Without memory for it it isn't heard.
-            let _ = self.forgetful.push(Forgetful { node, fault });
-        }
     }
 
     /// Which nodes have answered since the last time that they have forgotten what they did.
@@ -204,7 +202,7 @@ impl<R: Wait + Clock + Net + RandomSource + AllocGlobal + Drop> Wire for HttpWir
         let connection = self.connection_to(peer)?;
         let key = self.key.as_ref();
         let told = post(&self.rt, alloc, &mut self.runtime, connection, key, message)?;
-        self.hear(to, told.says);
+        hear(&mut self.forgetful, to, told.says);
         taken_in(told.status)?;
         self.sent.add(&told.posted);
         Ok(())
