@@ -386,8 +386,9 @@ where
     ensures { AreLetInOrEnded requests result }
 {
     let tasks = task_set(rt, runtime)?;
+    let bell = ending.listen()?;
     let accepting = Accepting::new(&tasks, listener, factory, permits, requests);
-    let until_ended = UntilEnded::new(accepting, ending)?;
+    let until_ended = UntilEnded::new(accepting, ending, bell);
     match runtime.block_on_with(rt, &tasks, until_ended) {
         Ok(let_in) => let_in,
         Err(_) => Err(ServeFault::AcceptFailed),

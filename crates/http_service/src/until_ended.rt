@@ -1,6 +1,6 @@
 //! Clients that are let in until their service is ended.
 
-ghost use Rattle.std.specs.Prelude.{◌≡◌, ◌≤◌, IfOk, IfSome};
+ghost use Rattle.std.specs.Prelude.{◌≡◌, ◌≤◌, IfSome};
 ghost use Rattle.futures.specs.Poll.{OnPending};
 ghost use Rattle.futures.specs.Task.{IsArmed, Keeps};
 ghost use Rattle.tokio.specs.Locks.{CanAcquire};
@@ -14,7 +14,6 @@ use crate::permits::AllBack;
 use futures::executor::TaskSet;
 use futures::task::{Context, Poll};
 use futures::{Future, ready};
-use std::alloc::AllocError;
 use tokio::sync::OwnedNotified;
 use tokio::time::Timeout;
 
@@ -44,26 +43,27 @@ pub struct UntilEnded<'a, F: ConnectionFactory> {
 }
 
 impl<'a, F: ConnectionFactory> UntilEnded<'a, F> {
-    /// The only error is out of memory.
+    /// It hears of the end by this bell.
     pub fn new(
         accepting: Accepting<'a, F>,
         ending: &'a Ending,
-    ) -> Result<UntilEnded<'a, F>, AllocError>
+        bell: OwnedNotified,
+    ) -> UntilEnded<'a, F>
         requires waiting { IfSome accepting.permits.waiting CanAcquire }
         requires few { accepting.clients.let_in ≤ accepting.wanted }
-        ensures can_poll { IfOk result (λ u. ⟦<UntilEnded<'a, F> as Future>⟧.can_poll u) }
-        ensures wanted { IfOk result (λ u. u.wanted ≡ accepting.entry.wanted) }
+        ensures can_poll { ⟦<UntilEnded<'a, F> as Future>⟧.can_poll result }
+        ensures wanted { result.wanted ≡ accepting.entry.wanted }
     {
         let (tasks, wanted) = (accepting.tasks, accepting.wanted);
-        Ok(UntilEnded {
-            bell: ending.listen()?,
+        UntilEnded {
             accepting: Some(accepting),
             last: None,
             tasks,
             ending,
+            bell,
             wanted,
             clients: Clients::none(),
-        })
+        }
     }
 }
 
