@@ -23,7 +23,7 @@ pub(crate) const ALL_CODES: [Code; CODES] = [
 ];
 
 /// Why a node refuses a message.
-#[derive(Clone, Copy, Debug, PartialEq, Eq)]
+#[derive(Clone, Copy)]
 pub(crate) enum Code {
     /// `N1`: the node accepts no call any more.
     TraceFull,
@@ -44,7 +44,7 @@ pub(crate) enum Code {
 }
 
 /// What a message came to.
-#[derive(Clone, Copy, Debug, PartialEq, Eq)]
+#[derive(Clone, Copy)]
 pub(crate) enum Outcome {
     /// It was accepted.
     Accepted,

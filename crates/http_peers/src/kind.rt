@@ -9,7 +9,7 @@ use message_format::MAX_MESSAGE;
 const SENDER_AT: usize = 4;
 
 /// What a request is.
-#[derive(Clone, Copy, Debug, PartialEq, Eq)]
+#[derive(Clone, Copy)]
 pub(crate) enum Kind {
     /// It may call the node, and delivers nothing.
     Call,
