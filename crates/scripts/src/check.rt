@@ -1,6 +1,7 @@
 //! A script that is checked: what its lines print, and what is said of those that fail.
 
-ghost use Rattle.std.specs.Prelude.{◌≡◌, ◌++◌, ◌<◌, ◌≤◌, [], false, length, option_map, IfOk, OnOk};
+ghost use Rattle.std.specs.Prelude.{◌≡◌, ◌++◌, ◌<◌, ◌≤◌, [], codes, false, length, option_map};
+ghost use Rattle.std.specs.Prelude.{string_bytes, IfOk, IfSome, OnOk};
 ghost use Rattle.std.specs.List.{position_or_len};
 ghost use Rattle.streams.specs.Lines.{is_skipped};
 ghost use Rattle.scripts.specs.Checks.{answered_text, asked_said, begins, checked_text};
@@ -10,8 +11,9 @@ ghost use Rattle.scripts.specs.Checks.{checked_output, read_checked, read_said, 
 ghost use Rattle.scripts.specs.Checks.{plain_output, skipping, taking, unchecked, waiting};
 ghost use Rattle.scripts.specs.Commands.{command_value};
 ghost use Rattle.scripts.specs.Checking.{checking_of};
-ghost use Rattle.scripts.specs.Schedules.{LineGoesOn, RunsAsSchedule};
-ghost use Rattle.scripts.specs.Script.{after_line, command_in, echo_of, line_output};
+ghost use Rattle.scripts.specs.Schedules.{GoesOn, LineGoesOn, RunsAsSchedule};
+ghost use Rattle.scripts.specs.Script.{after_line, after_read, command_in, echo_of, line_output};
+ghost use Rattle.scripts.specs.Script.{read_output};
 
 use crate::command::Command;
 use crate::faults::{say_bad, say_missing, say_of, why_bad, why_missing};
@@ -122,11 +124,19 @@ fn say_missed(
     if meets(expected, answer) {
         return Ok(());
     }
-    let mut what = Vec::from_slice(alloc, b"expected ")?;
+    let mut what = Vec::new(alloc);
+    push_missed(&mut what, expected, answer)?;
+    say_of(alloc, number, &what, said)
+}
+
+fn push_missed(what: &mut Vec<u8>, expected: &[u8], answer: &[u8]) -> Result<(), AllocError>
+    ensures { OnOk result (what.new.items ≡ what.old.items
+        ++ (codes "expected " ++ shown expected.now ++ codes ", got " ++ shown answer.now)) }
+{
+    what.extend_from_slice(b"expected ")?;
     what.extend_from_slice(shown(expected))?;
     what.extend_from_slice(b", got ")?;
-    what.extend_from_slice(shown(answer))?;
-    say_of(alloc, number, &what, said)
+    what.extend_from_slice(shown(answer))
 }
 
 impl Check {
@@ -214,6 +224,41 @@ impl Check {
     }
 }
 
+// What a line is answered, by what it asks for.
+fn answer_of(
+    alloc: Global,
+    world: &mut Option<World>,
+    command: Option<Command<'_>>,
+) -> Result<String, AllocError>
+    ensures text { IfOk result (λ text. string_bytes text
+        ≡ read_output world.old (option_map command_value command.entry)) }
+    ensures world { OnOk result (
+        world.new ≡ after_read world.old (option_map command_value command.entry)) }
+    ensures history { OnOk result (
+        IfSome (option_map command_value command.entry) (GoesOn world.old)) }
+{
+    let mut text = String::new(alloc);
+    run_read(alloc, world, command, &mut text)?;
+    Ok(text)
+}
+
+// Prints an answer, which waits to be expected.
+fn keep_answer(
+    alloc: Global,
+    check: &mut Check,
+    answer: &[u8],
+    printed: &mut Vec<u8>,
+) -> Result<(), AllocError>
+    requires { check.old.number < 4294967295 }
+    ensures printed { OnOk result (printed.new.items ≡ printed.old.items ++ answer.now) }
+    ensures state { OnOk result (
+        checking_of check.new ≡ waiting (checking_of check.old) answer.now) }
+    ensures said { OnOk result (check.new.said.items ≡ check.old.said.items) }
+{
+    printed.extend_from_slice(answer)?;
+    check.wait(alloc, answer)
+}
+
 // A line that asks for something, and is neither skipped nor expects.
 fn ask_line(
     alloc: Global,
@@ -235,10 +280,8 @@ fn ask_line(
 {
     let command = line_command(alloc, line)?;
     check.say_asked(alloc, world, line, &command)?;
-    let mut text = String::new(alloc);
-    run_read(alloc, world, command, &mut text)?;
-    printed.extend_from_slice(text.as_bytes())?;
-    check.wait(alloc, text.as_bytes())
+    let text = answer_of(alloc, world, command)?;
+    keep_answer(alloc, check, text.as_bytes(), printed)
 }
 
 // Any line.

@@ -8,7 +8,7 @@ ghost use Rattle.operations.specs.Operations.{count_of};
 ghost use Rattle.stamp_register.specs.Keys.{key_value};
 ghost use Rattle.streams.specs.Fields.{output_line};
 ghost use Rattle.scripts.specs.Commands.{command_value, question_value};
-ghost use Rattle.scripts.specs.Faults.{bad_said, ends_with_return, form_of};
+ghost use Rattle.scripts.specs.Faults.{bad_said, ends_with_return, first_of_both, form_of};
 ghost use Rattle.scripts.specs.Faults.{key_named, missing_at, missing_said, no_node, no_point};
 ghost use Rattle.scripts.specs.Faults.{no_term, question_form, said_of, wanted_in, why_bad};
 ghost use Rattle.scripts.specs.Faults.{why_missing};
@@ -138,6 +138,38 @@ fn no_node(world: &World, node: u8) -> Why
     }
 }
 
+// What of a point isn't there, by the point's name.
+fn no_point_named(alloc: Global, node: &NodeCore, name: &str) -> Result<Why, AllocError>
+    ensures { IfOk result (λ why. option_map (λ why. why.now) why
+        ≡ no_point (key_named (state_known node.now) name.now)) }
+{
+    Ok(no_point(key_named(alloc, node, name)?))
+}
+
+fn no_term_named(alloc: Global, node: &NodeCore, name: &str, term: u8) -> Result<Why, AllocError>
+    ensures { IfOk result (λ why. option_map (λ why. why.now) why
+        ≡ no_term term (key_named (state_known node.now) name.now)) }
+{
+    Ok(no_term(key_named(alloc, node, name)?, term))
+}
+
+// The same, or that another node isn't there.
+fn no_rights(
+    alloc: Global,
+    world: &World,
+    node: &NodeCore,
+    name: &str,
+    term: u8,
+    of: u8,
+) -> Result<Why, AllocError>
+    ensures { IfOk result (λ why. option_map (λ why. why.now) why
+        ≡ first_of_both (no_term term (key_named (state_known node.now) name.now))
+        (no_node of (slice_get world.now.nodes of))) }
+{
+    let why = no_term_named(alloc, node, name, term)?;
+    Ok(why.or(no_node(world, of)))
+}
+
 // Why a question to a node is about what isn't there, if it is.
 fn missing_at(
     alloc: Global,
@@ -148,14 +180,12 @@ fn missing_at(
     ensures { IfOk result (λ why. option_map (λ why. why.now) why
         ≡ missing_at world.now node.now (question_value question.entry)) }
 {
-    Ok(match question {
-        Question::List | Question::Report => None,
-        Question::Rights { name, term, of } => {
-            no_term(key_named(alloc, node, name)?, term).or(no_node(world, of))
-        }
-        Question::Spent { name, term } => no_term(key_named(alloc, node, name)?, term),
-        Question::Hits { name } => no_point(key_named(alloc, node, name)?),
-    })
+    match question {
+        Question::List | Question::Report => Ok(None),
+        Question::Rights { name, term, of } => no_rights(alloc, world, node, name, term, of),
+        Question::Spent { name, term } => no_term_named(alloc, node, name, term),
+        Question::Hits { name } => no_point_named(alloc, node, name),
+    }
 }
 
 /// Why a line that asks for this is about what isn't there, if it is a question and the node that it
@@ -181,11 +211,18 @@ pub(crate) fn why_missing(
 pub fn say_of(alloc: Global, number: u32, what: &[u8], out: &mut Vec<u8>) -> Result<(), AllocError>
     ensures { OnOk result (out.new.items ≡ out.old.items ++ said_of number what.now) }
 {
-    let front = format!(in alloc; "line {number}: ")?;
-    out.extend_from_slice(front.as_bytes())?;
+    push_number_of_line(alloc, number, out)?;
     out.extend_from_slice(what)?;
     out.push(b'\n')?;
     Ok(())
+}
+
+fn push_number_of_line(alloc: Global, number: u32, out: &mut Vec<u8>) -> Result<(), AllocError>
+    ensures { OnOk result (out.new.items
+        ≡ out.old.items ++ (codes "line " ++ decimal number ++ codes ": ")) }
+{
+    let front = format!(in alloc; "line {number}: ")?;
+    out.extend_from_slice(front.as_bytes())
 }
 
 /// Says why a line is bad, if it is.

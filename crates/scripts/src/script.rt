@@ -64,38 +64,40 @@ fn run_event(
 fn run_command_in(
     alloc: Global,
     world: &mut World,
-    command: Command<'_>,
+    command: &Command<'_>,
     out: &mut String,
 ) -> Result<(), AllocError>
     ensures output { Prints result out.old out.new
-        (command_output (Some world.old) (command_value command.entry)) }
+        (command_output (Some world.old) (command_value command.now)) }
     ensures world { OnOk result (
-        Some world.new ≡ after_command (Some world.old) (command_value command.entry)) }
-    ensures history { OnOk result (IsNext world.old (command_value command.entry)) }
+        Some world.new ≡ after_command (Some world.old) (command_value command.now)) }
+    ensures history { OnOk result (IsNext world.old (command_value command.now)) }
 {
     match command {
         Command::Nodes { .. } => print_bad_line(out),
-        Command::Event(event) => run_event(alloc, world, &event, out),
-        Command::Question { node, question } => ask(alloc, world, node, question, out),
+        Command::Event(event) => run_event(alloc, world, event, out),
+        Command::Question { node, question } => ask(alloc, world, *node, *question, out),
     }
 }
 
 fn run_command(
     alloc: Global,
     world: &mut Option<World>,
-    command: Command<'_>,
+    command: &Command<'_>,
     out: &mut String,
 ) -> Result<(), AllocError>
     ensures output { Prints result out.old out.new
-        (command_output world.old (command_value command.entry)) }
+        (command_output world.old (command_value command.now)) }
     ensures world { OnOk result (
-        world.new ≡ after_command world.old (command_value command.entry)) }
-    ensures history { OnOk result (GoesOn world.old (command_value command.entry)) }
+        world.new ≡ after_command world.old (command_value command.now)) }
+    ensures history { OnOk result (GoesOn world.old (command_value command.now)) }
 {
     match world {
         Some(world) => run_command_in(alloc, world, command, out),
         None => match command {
-            Command::Nodes { count, trace_cap } => start_world(alloc, world, count, trace_cap, out),
+            Command::Nodes { count, trace_cap } => {
+                start_world(alloc, world, *count, *trace_cap, out)
+            }
             Command::Event(_) | Command::Question { .. } => print_bad_line(out),
         },
     }
@@ -128,7 +130,7 @@ pub(crate) fn run_read(
     ensures history { OnOk result (
         IfSome (option_map command_value command.entry) (GoesOn world.old)) }
 {
-    match command {
+    match &command {
         Some(command) => run_command(alloc, world, command, out),
         None => print_bad_line(out),
     }
