@@ -13,6 +13,14 @@ use Rattle.drills.specs.Parts.{PartTold}
 use Rattle.streams.specs.Streams.{Writes}
 use Rattle.streams.specs.declared.watched.Watched.{Watched}
 
+-- the text is what an audit says of a drill, and whether it says yes; out of memory is no verdict
+pub record IsToldOf (traces : Traces) (lists : Lists) (explained : Bool) (text : List ℕ) : Type 0 where
+  pub verdict : Result AuditYes AuditFault
+  pub judged : IsAudited (min (length traces) 255) traces lists verdict
+  pub ended : verdict ≢ Err OutOfMemory
+  pub is_yes : explained ≡ is_ok verdict
+  pub told : text ≡ verdict_text verdict
+
 -- what an audit says of a drill was written, of the one that the bytes are where these are known; more than 255 traces
 -- are as few as those, and too many; out of memory is no verdict
 abbrev pub SaysVerdict : {O : Type 0} → Option (List ℕ) → Bool → (O → Option (List ℕ)) → Watched O → Watched O → Type 0
@@ -42,6 +50,15 @@ nodes_in (p ∷ parts) = p.head.nodes
 
 abbrev pub cuts_text : List PartTold → List ℕ
 cuts_text parts = cuts_below (nodes_in parts) parts
+
+-- the text is what an audit says of the drill that parts join to, and behind it which of them were cut
+pub record AreToldOf (parts : List PartTold) (explained : Bool) (text : List ℕ) : Type 0 where
+  pub traces : Traces
+  pub lists : Lists
+  pub verdict : List ℕ
+  pub joined : joined_of parts ≡ Ok (drill_told traces lists)
+  pub told : IsToldOf traces lists explained verdict
+  pub with_cuts : text ≡ verdict ++ cuts_text parts
 
 -- what an audit says of the drill that parts join to was written, and behind it which of them were cut
 abbrev pub SaysOfParts : {O : Type 0} → List PartTold → Bool → (O → Option (List ℕ)) → Watched O → Watched O → Type 0

@@ -66,29 +66,47 @@ pub fn advice_on_parse(alloc: Global, text: &str, read: &Result<Actions, ActionF
     advice_on_fault(alloc, text, *fault).unwrap_or(String::new(alloc))
 }
 
+// That a file can't be read.
+fn unread(alloc: Global, path: &str) -> Result<String, AllocError> {
+    let shown = quoted(alloc, path)?;
+    format!(in alloc; "{shown} can't be read")
+}
+
+// That a line of a file is bad.
+fn bad_at(alloc: Global, path: &str, line: u64) -> Result<String, AllocError> {
+    let shown = quoted(alloc, path)?;
+    format!(in alloc;
+        "{shown}: line {line} is none of a part: give the parts of one run, as they were written"
+    )
+}
+
 // What is wrong with a file that should have a part.
 fn advice_on_part(alloc: Global, path: &str, fault: DrillFault) -> Result<String, AllocError> {
-    let shown = quoted(alloc, path)?;
     match fault {
-        DrillFault::ReadFailed => format!(in alloc; "{shown} can't be read"),
-        DrillFault::BadLine { line } => format!(in alloc;
-            "{shown}: line {line} is none of a part: give the parts of one run, as they were written"
-        ),
+        DrillFault::ReadFailed => unread(alloc, path),
+        DrillFault::BadLine { line } => bad_at(alloc, path, line),
         DrillFault::WriteFailed | DrillFault::OutOfMemory => Ok(String::new(alloc)),
     }
+}
+
+// The path of this place, as it is shown.
+fn shown_at(alloc: Global, paths: &[&str], place: usize) -> Result<String, AllocError> {
+    quoted(alloc, paths.get(place).copied().unwrap_or(""))
+}
+
+// That a file has another run than the first. Files are counted from 1.
+fn of_other_drill(alloc: Global, paths: &[&str], file: u64) -> Result<String, AllocError> {
+    let first = shown_at(alloc, paths, 0)?;
+    let other = shown_at(alloc, paths, file.saturating_sub(1) as usize)?;
+    format!(in alloc;
+        "{other} has another run or another number of nodes than {first}: give parts of one run"
+    )
 }
 
 // Why parts in files join to no drill.
 fn advice_on_join(alloc: Global, paths: &[&str], fault: JoinFault) -> Result<String, AllocError> {
     match fault {
-        JoinFault::OtherDrill { file } => {
-            let first = quoted(alloc, paths.first().copied().unwrap_or(""))?;
-            let place = file.saturating_sub(1) as usize;
-            let other = quoted(alloc, paths.get(place).copied().unwrap_or(""))?;
-            format!(in alloc;
-                "{other} has another run or another number of nodes than {first}: give parts of one run"
-            )
-        }
+        JoinFault::OtherDrill { file } => of_other_drill(alloc, paths, file),
         JoinFault::SamePart { node } => {
             format!(in alloc; "two files have a part of node {node}: give one of each node")
         }

@@ -22,7 +22,7 @@ use std::io::{BufRead, BufReader, Read, Write};
 use std::process::ExitCode;
 
 // The first line of a reader, with the newline that ends it, if one does.
-pub fn first_line<I: Read>(
+fn first_line<I: Read>(
     alloc: Global,
     reader: &mut BufReader<Watched<I>>,
 ) -> Result<Vec<u8>, DrillFault>
@@ -40,9 +40,24 @@ pub fn first_line<I: Read>(
 }
 
 // Whether a part begins with this line.
-pub fn begins_part(alloc: Global, line: &[u8]) -> Result<bool, AllocError> {
+fn begins_part(alloc: Global, line: &[u8]) -> Result<bool, AllocError> {
     let line = line.strip_suffix(b"\n").unwrap_or(line);
     Ok(part_head_in(alloc, line)?.is_some())
+}
+
+// The first line of a reader, and whether a part begins with it.
+pub fn first_of<I: Read>(
+    alloc: Global,
+    reader: &mut BufReader<Watched<I>>,
+) -> Result<(Vec<u8>, bool), AuditRefused>
+    ensures { IfErr result (λ fault. fault ≢ Drill WriteFailed) }
+{
+    let first = match first_line(alloc, reader) {
+        Ok(first) => first,
+        Err(fault) => return Err(AuditRefused::Drill { fault }),
+    };
+    let is_part = begins_part(alloc, &first)?;
+    Ok((first, is_part))
 }
 
 // The part that a reader gives.
@@ -54,7 +69,7 @@ pub fn part_from<I: Read + Drop>(alloc: Global, input: I) -> Result<Part, DrillF
 }
 
 // A list of the one part in a file.
-fn alone(alloc: Global, part: Part) -> Result<Vec<Part>, AllocError> {
+pub fn alone(alloc: Global, part: Part) -> Result<Vec<Part>, AllocError> {
     let mut parts = Vec::new(alloc);
     parts.push(part)?;
     Ok(parts)
@@ -117,11 +132,7 @@ fn audit_input<I: Read + Drop, O: Write>(
     let Ok(mut reader) = BufReader::new(alloc, Watched::new(ShortLines::new(input))) else {
         return Err(AuditRefused::from(AllocError));
     };
-    let first = match first_line(alloc, &mut reader) {
-        Ok(first) => first,
-        Err(fault) => return Err(AuditRefused::Drill { fault }),
-    };
-    let is_part = begins_part(alloc, &first)?;
+    let (first, is_part) = first_of(alloc, &mut reader)?;
     let whole = first.as_slice().chain(&mut reader);
     if is_part {
         audit_part(alloc, whole, writer)

@@ -1,18 +1,18 @@
 //! The audit of a recorded drill, and of parts.
 
 ghost use Rattle.std.specs.Prelude.{◌≡◌, ◌≢◌, ◌↔◌, ◌++◌, ℕ, map, min, length, IfOk, IfErr, OnOk};
-ghost use Rattle.std.specs.Prelude.{string_bytes, None, Err, true, false};
+ghost use Rattle.std.specs.Prelude.{string_bytes, None, Ok, Err, true, false};
 ghost use Rattle.std.specs.Io.Buffered.{reader_inner};
 ghost use Rattle.audit.specs.Answers.{IsAudited};
 ghost use Rattle.streams.specs.Watched.{has_failed, has_unflushed};
 ghost use Rattle.drills.specs.declared.fault.DrillFault.TheVariants.{BadLine, ReadFailed, WriteFailed};
-ghost use Rattle.drills.specs.Drills.{drill_in};
+ghost use Rattle.drills.specs.Drills.{drill_in, drill_of};
 ghost use Rattle.drills.specs.Taken.{IfBytes, bytes_left};
 ghost use Rattle.drills.specs.declared.join_fault.JoinFault.{JoinFault};
 ghost use Rattle.drills.specs.Joined.{joined_of};
 ghost use Rattle.drills.specs.Parts.{part_of};
-ghost use Rattle.commands.specs.Audited.{SaysOfParts, SaysVerdict, cuts_below, cuts_text};
-ghost use Rattle.commands.specs.Audited.{is_cut_at, nodes_in};
+ghost use Rattle.commands.specs.Audited.{AreToldOf, IsToldOf, SaysOfParts, SaysVerdict};
+ghost use Rattle.commands.specs.Audited.{cuts_below, cuts_text, is_cut_at, nodes_in};
 
 use crate::audit_refused::AuditRefused;
 use audit::{AuditFault, AuditYes, audit, verdict_text};
@@ -43,6 +43,17 @@ pub fn judged(alloc: Global, drill: &Drill) -> Result<Result<AuditYes, AuditFaul
     }
 }
 
+// What an audit says of a drill, and whether that is a yes.
+fn told_of(alloc: Global, drill: &Drill) -> Result<(String, bool), DrillFault>
+    ensures told { IfOk result (λ told. IsToldOf drill.now.traces.items drill.now.lists.items
+        told.1 (string_bytes told.0)) }
+    ensures err { IfErr result (λ fault. fault ≡ DrillFault.OutOfMemory) }
+{
+    let verdict = judged(alloc, drill)?;
+    let text = verdict_text(alloc, &verdict)?;
+    Ok((text, verdict.is_ok()))
+}
+
 /// Audits the drill that a reader gives, writes what the audit says, and answers whether it is a yes.
 pub fn audit_drill<I: Read, O: Write>(
     alloc: Global,
@@ -64,10 +75,9 @@ pub fn audit_drill<I: Read, O: Write>(
     ensures unwritten { IfErr result (λ fault. fault ≢ WriteFailed → writer.new ≡ writer.old) }
 {
     let drill = read_drill(alloc, reader)?;
-    let verdict = judged(alloc, &drill)?;
-    let text = verdict_text(alloc, &verdict)?;
+    let (text, yes) = told_of(alloc, &drill)?;
     match write_text(writer, text.as_bytes()) {
-        Ok(()) => Ok(verdict.is_ok()),
+        Ok(()) => Ok(yes),
         Err(_) => Err(DrillFault::WriteFailed),
     }
 }
@@ -116,6 +126,41 @@ fn cuts_text(alloc: Global, parts: &[Part]) -> Result<String, AllocError>
     Ok(text)
 }
 
+// The drill that parts join to.
+pub fn drill_of_parts(alloc: Global, parts: Vec<Part>) -> Result<Drill, AuditRefused>
+    ensures joined { IfOk result (λ drill.
+        joined_of (map part_of parts.items) ≡ Ok (drill_of drill)) }
+    ensures refused { (fault : JoinFault) → result ≡ Err (AuditRefused.Join fault)
+        → fault ≢ JoinFault.OutOfMemory
+        → joined_of (map part_of parts.items) ≡ Err fault }
+    ensures only { IfErr result (λ fault. fault ≢ AuditRefused.Drill WriteFailed) }
+{
+    match joined(alloc, parts) {
+        Ok(drill) => Ok(drill),
+        Err(fault) => Err(AuditRefused::Join { fault }),
+    }
+}
+
+// What an audit says of the drill that parts join to, and behind it which parts were cut; and whether it
+// says yes.
+fn told_of_parts(alloc: Global, parts: Vec<Part>) -> Result<(String, bool), AuditRefused>
+    ensures told { IfOk result (λ told.
+        AreToldOf (map part_of parts.items) told.1 (string_bytes told.0)) }
+    ensures refused { (fault : JoinFault) → result ≡ Err (AuditRefused.Join fault)
+        → fault ≢ JoinFault.OutOfMemory
+        → joined_of (map part_of parts.items) ≡ Err fault }
+    ensures only { IfErr result (λ fault. fault ≢ AuditRefused.Drill WriteFailed) }
+{
+    let cuts = cuts_text(alloc, &parts)?;
+    let drill = drill_of_parts(alloc, parts)?;
+    let (mut text, is_yes) = match told_of(alloc, &drill) {
+        Ok(told) => told,
+        Err(fault) => return Err(AuditRefused::Drill { fault }),
+    };
+    text.push_str(&cuts)?;
+    Ok((text, is_yes))
+}
+
 /// Audits the drill that parts join to, writes what the audit says and behind it which parts were cut,
 /// and answers whether it is a yes.
 pub fn audit_parts<O: Write>(
@@ -138,18 +183,7 @@ pub fn audit_parts<O: Write>(
     ensures unwritten { IfErr result (λ fault. fault ≢ AuditRefused.Drill WriteFailed
         → writer.new ≡ writer.old) }
 {
-    let cuts = cuts_text(alloc, &parts)?;
-    let drill = match joined(alloc, parts) {
-        Ok(drill) => drill,
-        Err(fault) => return Err(AuditRefused::Join { fault }),
-    };
-    let verdict = match judged(alloc, &drill) {
-        Ok(verdict) => verdict,
-        Err(fault) => return Err(AuditRefused::Drill { fault }),
-    };
-    let mut text = verdict_text(alloc, &verdict)?;
-    text.push_str(&cuts)?;
-    let is_yes = verdict.is_ok();
+    let (text, is_yes) = told_of_parts(alloc, parts)?;
     match write_text(writer, text.as_bytes()) {
         Ok(()) => Ok(is_yes),
         Err(_) => Err(AuditRefused::Drill {

@@ -1,7 +1,7 @@
 //! What codes of refusals mean.
 
 ghost use Rattle.std.specs.Prelude.{◌≡◌, ◌⊎◌, [], true, false, option_map, string_bytes};
-ghost use Rattle.std.specs.Prelude.{unwrap_or, IfOk};
+ghost use Rattle.std.specs.Prelude.{unwrap_or, IfOk, OnOk};
 ghost use Rattle.std.specs.Process.{exit_status};
 ghost use Rattle.streams.specs.Streams.{Writes};
 ghost use Rattle.streams.specs.Watched.{has_failed, has_unflushed};
@@ -58,6 +58,21 @@ fn unknown(alloc: Global, text: &str) -> Result<String, AllocError>
     no_code(alloc, &quoted(alloc, text)?, &all_codes(alloc)?)
 }
 
+// Says that a text has no code; where that can't be said, the status tells it.
+fn say_unknown<E: Write>(
+    alloc: Global,
+    text: &str,
+    errors: &mut Watched<E>,
+) -> Result<(), AllocError>
+    requires { has_failed errors.old ≡ false }
+    ensures { OnOk result (has_failed errors.new ≡ false →
+        Writes E.contents errors.old errors.new (unknown_text TABLE.now text.now)) }
+{
+    let said = unknown(alloc, text)?;
+    let _said = write_text(errors, said.as_bytes());
+    Ok(())
+}
+
 /// Writes what the codes in a text mean or, where there is no text, all codes. A text without a code
 /// is a mistake in the command line, and standard error has what was met and which codes there are.
 pub fn explain_codes<R: Eprint + AllocGlobal, O: Write, E: Write>(
@@ -92,8 +107,6 @@ pub fn explain_codes<R: Eprint + AllocGlobal, O: Write, E: Write>(
     if !shown.is_empty() {
         return finish_script(rt, write_text(writer, shown.as_bytes()), "");
     }
-    let said = unknown(rt.alloc(), met(text))?;
-    // Where it can't be said, the status tells it.
-    let _said = write_text(errors, said.as_bytes());
+    say_unknown(rt.alloc(), met(text), errors)?;
     Ok(ExitCode::from(2))
 }

@@ -6,19 +6,20 @@ ghost use Rattle.std.specs.Process.{exit_status};
 ghost use Rattle.streams.specs.Watched.{has_failed, has_unflushed};
 ghost use Rattle.drills.specs.declared.fault.DrillFault.TheVariants.{WriteFailed};
 ghost use Rattle.drill_picture.specs.Counted.{counted_told};
-ghost use Rattle.commands.specs.Drawn.{AreAsked, DrawsDrill, DrawsSome, headline_text, wrong_of};
+ghost use Rattle.commands.specs.Drawn.{AreAsked, DrawsDrill, DrawsSome, Shows};
+ghost use Rattle.commands.specs.Drawn.{headline_text, wrong_of};
 ghost use Rattle.commands.specs.Statuses.{OnStatus};
 
 use crate::advice::{advice_on_audit, missing_of};
 use crate::audit_refused::AuditRefused;
-use crate::audited_files::{begins_part, first_line, part_from, parts_in_files};
-use crate::auditing::judged;
+use crate::audited_files::{alone, first_of, part_from, parts_in_files};
+use crate::auditing::{drill_of_parts, judged};
 use crate::charted::budgets_of;
 use crate::finish::{finish_audit, refuse_missing};
 use crate::short_lines::ShortLines;
 use audit::{AuditFault, AuditYes};
 use drill_picture::{Counted, counted_terms, picture, picture_lines};
-use drills::{Drill, DrillFault, Part, joined, read_drill};
+use drills::{Drill, DrillFault, read_drill};
 use packed_trace::Trace;
 use scripts::{Watched, write_text};
 use std::alloc::{AllocError, AllocGlobal, Global};
@@ -90,6 +91,40 @@ fn counted_of(
     }
 }
 
+// The picture of traces as an SVG, below what is said of them.
+fn drawn(
+    alloc: Global,
+    traces: &[Trace],
+    verdict: &Result<AuditYes, AuditFault>,
+    said: &str,
+) -> Result<String, AllocError>
+    requires few { length traces.now ≤ 256 }
+    requires said { said.now ≡ headline_text verdict.now }
+    ensures { IfOk result (λ text. Shows false traces.now verdict.now (string_bytes text)) }
+{
+    let counted = counted_of(alloc, traces, verdict)?;
+    let budgets = budgets_of(alloc, verdict, &counted)?;
+    picture(alloc, traces, said, wrong_of(verdict), &budgets)
+}
+
+// The picture of traces, with what an audit says of their drill.
+fn shown(
+    alloc: Global,
+    traces: &[Trace],
+    verdict: &Result<AuditYes, AuditFault>,
+    as_text: bool,
+) -> Result<String, AllocError>
+    requires { length traces.now ≤ 256 }
+    ensures { IfOk result (λ text. Shows as_text traces.now verdict.now (string_bytes text)) }
+{
+    let said = headline(alloc, verdict)?;
+    if as_text {
+        picture_lines(alloc, traces, &said)
+    } else {
+        drawn(alloc, traces, verdict, &said)
+    }
+}
+
 // The picture of a drill, with what an audit says of it.
 fn picture_of(alloc: Global, drill: &Drill, as_text: bool) -> Result<String, DrillFault>
     ensures drawn { IfOk result (λ text.
@@ -97,34 +132,19 @@ fn picture_of(alloc: Global, drill: &Drill, as_text: bool) -> Result<String, Dri
     ensures err { IfErr result (λ fault. fault ≡ DrillFault.OutOfMemory) }
 {
     let verdict = judged(alloc, drill)?;
-    let said = headline(alloc, &verdict)?;
-    let traces = drawn_traces(&drill.traces);
-    if as_text {
-        return Ok(picture_lines(alloc, traces, &said)?);
-    }
-    let counted = counted_of(alloc, traces, &verdict)?;
-    let budgets = budgets_of(alloc, &verdict, &counted)?;
-    let wrong = wrong_of(&verdict);
-    Ok(picture(alloc, traces, &said, wrong, &budgets)?)
+    Ok(shown(alloc, drawn_traces(&drill.traces), &verdict, as_text)?)
 }
 
 // The drill that a reader gives.
-fn drill_from<I: Read + Drop>(alloc: Global, input: I) -> Result<Drill, DrillFault>
-    ensures { IfErr result (λ fault. fault ≢ WriteFailed) }
-{
-    let Ok(mut reader) = BufReader::new(alloc, Watched::new(input)) else {
-        return Err(DrillFault::OutOfMemory);
-    };
-    read_drill(alloc, &mut reader)
-}
-
-// The drill that parts join to.
-fn drill_of_parts(alloc: Global, parts: Vec<Part>) -> Result<Drill, AuditRefused>
+fn drill_from<I: Read + Drop>(alloc: Global, input: I) -> Result<Drill, AuditRefused>
     ensures { IfErr result (λ fault. fault ≢ AuditRefused.Drill WriteFailed) }
 {
-    match joined(alloc, parts) {
+    let Ok(mut reader) = BufReader::new(alloc, Watched::new(input)) else {
+        return Err(AuditRefused::from(AllocError));
+    };
+    match read_drill(alloc, &mut reader) {
         Ok(drill) => Ok(drill),
-        Err(fault) => Err(AuditRefused::Join { fault }),
+        Err(fault) => Err(AuditRefused::Drill { fault }),
     }
 }
 
@@ -132,13 +152,10 @@ fn drill_of_parts(alloc: Global, parts: Vec<Part>) -> Result<Drill, AuditRefused
 fn drill_of_part<I: Read + Drop>(alloc: Global, input: I) -> Result<Drill, AuditRefused>
     ensures { IfErr result (λ fault. fault ≢ AuditRefused.Drill WriteFailed) }
 {
-    let part = match part_from(alloc, input) {
-        Ok(part) => part,
-        Err(fault) => return Err(AuditRefused::Part { file: 0, fault }),
-    };
-    let mut parts = Vec::new(alloc);
-    parts.push(part)?;
-    drill_of_parts(alloc, parts)
+    match part_from(alloc, input) {
+        Ok(part) => drill_of_parts(alloc, alone(alloc, part)?),
+        Err(fault) => Err(AuditRefused::Part { file: 0, fault }),
+    }
 }
 
 // The drill or the part in what is read, which its first line tells.
@@ -148,18 +165,12 @@ fn drill_of_input<I: Read + Drop>(alloc: Global, input: I) -> Result<Drill, Audi
     let Ok(mut reader) = BufReader::new(alloc, Watched::new(ShortLines::new(input))) else {
         return Err(AuditRefused::from(AllocError));
     };
-    let first = match first_line(alloc, &mut reader) {
-        Ok(first) => first,
-        Err(fault) => return Err(AuditRefused::Drill { fault }),
-    };
-    let is_part = begins_part(alloc, &first)?;
+    let (first, is_part) = first_of(alloc, &mut reader)?;
     let whole = first.as_slice().chain(&mut reader);
     if is_part {
-        return drill_of_part(alloc, whole);
-    }
-    match drill_from(alloc, whole) {
-        Ok(drill) => Ok(drill),
-        Err(fault) => Err(AuditRefused::Drill { fault }),
+        drill_of_part(alloc, whole)
+    } else {
+        drill_from(alloc, whole)
     }
 }
 

@@ -1,6 +1,7 @@
 //! Scripts that are run, and checked where that is wanted.
 
-ghost use Rattle.std.specs.Prelude.{◌≡◌, ◌≢◌, ◌<◌, ◌⊎◌, true, false, length, if◌then◌else◌, IfOk};
+ghost use Rattle.std.specs.Prelude.{◌≡◌, ◌≢◌, ◌<◌, ◌⊎◌, true, false, length, if◌then◌else◌};
+ghost use Rattle.std.specs.Prelude.{IfOk, IsErr, OnOk};
 ghost use Rattle.std.specs.Process.{exit_status};
 ghost use Rattle.scripts.specs.Checks.{answered_text, checked_status, checked_text};
 ghost use Rattle.scripts.specs.Script.{echoed_text, script_text};
@@ -12,11 +13,47 @@ ghost use Rattle.commands.specs.Statuses.{HasStatus, OnStatus};
 use crate::finish::{finish_checked, finish_script};
 use command_line::SimOptions;
 use scripts::{
-    MOST_BYTES, Watched, run_script, run_script_checked, run_script_echoing, run_script_warning,
+    MOST_BYTES, ScriptFault, Watched, run_script, run_script_checked, run_script_echoing,
+    run_script_warning,
 };
-use std::alloc::AllocGlobal;
+use std::alloc::{AllocGlobal, Global};
 use std::io::{Read, Write};
 use std::process::ExitCode;
+
+// Runs a script that isn't checked: where that is asked for with each line before what it prints, and
+// saying what goes wrong in it.
+fn run_unchecked<I: Read, O: Write, E: Write>(
+    alloc: Global,
+    options: SimOptions,
+    reader: &mut Watched<I>,
+    writer: &mut Watched<O>,
+    errors: &mut Watched<E>,
+) -> Result<(), ScriptFault>
+    requires reader { has_failed reader.old ≡ false }
+    requires writer { has_failed writer.old ≡ false }
+    requires errors { has_failed errors.old ≡ false }
+    ensures ok { OnOk result (IfInput I.remaining reader.old (λ input.
+        Writes O.contents writer.old writer.new
+        (if options.echo then echoed_text input else script_text input))) }
+    ensures flushed { OnOk result (has_unflushed writer.new ≡ false) }
+    ensures said { options.quiet ≡ false → OnOk result (
+        has_failed errors.new ≡ false → IfInput I.remaining reader.old (λ input.
+        Writes E.contents errors.old errors.new (warned_text input))) }
+    ensures quiet { options.quiet ≡ true → errors.new ≡ errors.old }
+    ensures read_failed { has_failed reader.new ≡ true → IsErr result }
+    ensures write_failed { has_failed writer.new ≡ true → IsErr result }
+    ensures long { IfInput I.remaining reader.old (λ input.
+        MOST_BYTES < length input → IsErr result) }
+{
+    let SimOptions { echo, quiet, .. } = options;
+    if !quiet {
+        run_script_warning(alloc, echo, reader, writer, errors)
+    } else if echo {
+        run_script_echoing(alloc, reader, writer)
+    } else {
+        run_script(alloc, reader, writer)
+    }
+}
 
 /// Runs the script that a reader gives, and may echo its lines and say which go wrong.
 pub fn sim<R: Eprint + AllocGlobal, I: Read, O: Write, E: Write>(
@@ -46,14 +83,7 @@ pub fn sim<R: Eprint + AllocGlobal, I: Read, O: Write, E: Write>(
         MOST_BYTES < length input → HasStatus result 1) }
     ensures status { IfOk result (λ code. (exit_status code ≡ 0) ⊎ (exit_status code ≡ 1)) }
 {
-    let SimOptions { echo, quiet, .. } = options;
-    let run = if !quiet {
-        run_script_warning(rt.alloc(), echo, reader, writer, errors)
-    } else if echo {
-        run_script_echoing(rt.alloc(), reader, writer)
-    } else {
-        run_script(rt.alloc(), reader, writer)
-    };
+    let run = run_unchecked(rt.alloc(), options, reader, writer, errors);
     finish_script(rt, run, "")
 }
 

@@ -3,13 +3,14 @@ use Rattle.commands.proofs.auditing.audit_drill.Goals as goal
 pub returns-in-Ok-clause-ok : goal.returns-in-Ok-clause-ok
 returns-in-Ok-clause-ok g c =
     let drill = c.in_ok-drill.drill in
-    let written = rw (c.as_bytes.ensures.value, c.in_ok-text.ensures) at c.in-Ok.ensures.ok in (
+    let told = c.in_ok-text.ensures.told in
+    let written = rw (c.as_bytes.ensures.value, told.told) at c.in-Ok.ensures.ok in (
       drill.traces.items,
       drill.lists.items,
-      c.in_ok-verdict.verdict,
+      told.verdict,
       c.in_ok-drill.ensures.ok,
-      c.in_ok-verdict.ensures.audited,
-      c.in_ok-verdict.ensures.ended,
-      c.is_ok.ensures.value,
+      told.judged,
+      told.ended,
+      told.is_yes,
       written,
     )
