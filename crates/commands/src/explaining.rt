@@ -58,6 +58,22 @@ fn unknown(alloc: Global, text: &str) -> Result<String, AllocError>
     no_code(alloc, &quoted(alloc, text)?, &all_codes(alloc)?)
 }
 
+// Writes what explains a text.
+fn write_shown<R: Eprint, O: Write>(
+    rt: &R,
+    shown: &str,
+    writer: &mut Watched<O>,
+) -> anyhow::Result<ExitCode>
+    requires { has_failed writer.old ≡ false }
+    ensures done { OnStatus result 0 (Writes O.contents writer.old writer.new shown.now) }
+    ensures flushed { OnStatus result 0 (has_unflushed writer.new ≡ false) }
+    ensures write_failed { has_failed writer.new ≡ true → HasStatus result 1 }
+    ensures failed { OnStatus result 1 (has_failed writer.new ≡ true) }
+    ensures status { IfOk result (λ code. (exit_status code ≡ 0) ⊎ (exit_status code ≡ 1)) }
+{
+    finish_script(rt, write_text(writer, shown.as_bytes()), "")
+}
+
 // Says that a text has no code; where that can't be said, the status tells it.
 fn say_unknown<E: Write>(
     alloc: Global,
@@ -105,7 +121,7 @@ pub fn explain_codes<R: Eprint + AllocGlobal, O: Write, E: Write>(
 {
     let shown = asked(rt.alloc(), text)?;
     if !shown.is_empty() {
-        return finish_script(rt, write_text(writer, shown.as_bytes()), "");
+        return write_shown(rt, &shown, writer);
     }
     say_unknown(rt.alloc(), met(text), errors)?;
     Ok(ExitCode::from(2))
