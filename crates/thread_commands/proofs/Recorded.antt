@@ -1,13 +1,38 @@
 -- What a recorded run writes, where its reader tells its bytes.
-use Rattle.std.proofs.Common.{◌≡◌, List, ℕ, Option, Some, None, Result, Ok, Err, refl, subst}
+use Rattle.std.proofs.Common.{◌≡◌, List, ℕ, Option, Some, None, Result, Ok, Err, refl, subst, ◌∙◌}
 use Rattle.std.specs.Prelude.{IfSome, OnOk}
 use Rattle.streams.specs.Streams.{Writes}
 use Rattle.streams.specs.declared.watched.Watched.{Watched}
 use Rattle.audit.specs.Receipts.{Lists}
 use Rattle.audit.specs.Traces.{Traces}
-use Rattle.thread_commands.specs.Recordings.{IsKept}
+use Rattle.thread_commands.specs.Recordings.{IsKept, IsTold}
 use Rattle.thread_plans.specs.Plans.{PlanValue, plan_in}
+use Rattle.thread_scripts.specs.Calls.{RunFaults}
 use Rattle.thread_scripts.specs.Outputs.{ComesToSaying, PlaysSaying}
+use Rattle.thread_scripts.specs.Plays.{AreListsOf, AreTracesOf}
+
+-- what was kept of a run, where what it prints was written, and what its script is warned of is said
+pub kept : {O T E : Type 0} (Keeps : Traces → Lists → Type 0) (contents : O → Option (List ℕ)) (old new : Watched O)
+    (script : List ℕ) (plan : PlanValue) (traces : Traces) (lists : Lists) (faults : RunFaults)
+    (text warned said : List ℕ) (result : Result T E)
+    → AreTracesOf plan traces → AreListsOf plan lists faults → IsTold script plan traces lists faults text warned
+    → Keeps traces lists → OnOk result (Writes contents old new text) → OnOk result (said ≡ warned)
+    → OnOk result (IsKept Keeps script plan said contents old new)
+kept Keeps contents old new script plan traces lists faults text warned said (Err fault) legal given told keeps w s = tt
+kept Keeps contents old new script plan traces lists faults text warned said (Ok done) legal given told keeps w s =
+    record {
+      traces = traces;
+      lists = lists;
+      faults = faults;
+      text = text;
+      explained = told.explained;
+      legal = legal;
+      given = given;
+      judged = told.judged;
+      warned = s ∙ told.is_warned;
+      kept = keeps;
+      printed = w;
+    }
 
 -- the script that was read is the input, what it prints was written, and what it is warned of is said
 pub played : {O T E : Type 0} (Keeps : Traces → Lists → Type 0) (contents : O → Option (List ℕ)) (old new : Watched O)

@@ -15,6 +15,13 @@ use Rattle.thread_scripts.specs.Outputs.{IsJudged}
 use Rattle.thread_scripts.specs.Plays.{AreListsOf, AreTracesOf}
 use Rattle.thread_scripts.specs.Warnings.{warned_text}
 
+-- what a run of a script's plan prints, and what the script is warned of
+pub record IsTold (script : List ℕ) (plan : PlanValue) (traces : Traces) (lists : Lists) (faults : RunFaults)
+    (text warned : List ℕ) : Type 0 where
+  pub explained : Bool
+  pub judged : IsJudged plan traces lists text explained
+  pub is_warned : warned ≡ warned_text script plan lists faults explained
+
 -- A plan was played and its run kept, as this says of its traces and lists of receipts; what it prints was written; and
 -- this is what the plan's script is warned of.
 pub record IsKept {O : Type 0} (Keeps : Traces → Lists → Type 0) (script : List ℕ) (plan : PlanValue) (said : List ℕ)

@@ -16,7 +16,7 @@ ghost use Rattle.commands.specs.Statuses.{HasStatus, OnStatus};
 
 use crate::part_recording::{keep_parts, kept_part, part_files, run_in_parts};
 use crate::recording::{file_at, is_kept, keep_drill, run_recorded};
-use crate::warning::finish_checked_threads;
+use crate::warning::{finish_checked_threads, write_saying};
 use command_line::{ThreadOptions, quoted};
 use commands::refuse;
 use std::alloc::{AllocError, AllocGlobal};
@@ -25,15 +25,19 @@ use std::io::{Read, Write};
 use std::process::ExitCode;
 use std::sync::Wait;
 use std::thread::Threads;
-use streams::{MOST_BYTES, ScriptFault, Watched, read_script, write_text};
+use streams::{MOST_BYTES, ScriptFault, Watched, read_script};
 use thread_checks::{CheckedRun, play_checked};
 use thread_scripts::run_threads_warning;
 
-/// The file that is there where the drill or a part of it is to be kept, if one is.
+/// The file that is there where the drill or a part of it is to be kept, if one is and may not be written
+/// over.
 pub fn in_the_way<R: Files + AllocGlobal>(
     rt: &R,
     options: ThreadOptions<'_>,
 ) -> Result<Option<String>, AllocError> {
+    if options.force {
+        return Ok(None);
+    }
     match (options.record, options.record_parts) {
         (Some(path), _) => {
             if is_kept(rt, path) {
@@ -115,26 +119,6 @@ fn keep<R: Files + AllocGlobal>(
     }
 }
 
-// Writes what a run prints, and then sets what is said.
-fn write_checked<O: Write>(
-    writer: &mut Watched<O>,
-    text: &[u8],
-    failures: Vec<u8>,
-    said: &mut Vec<u8>,
-) -> Result<(), ScriptFault>
-    requires { has_failed writer.old ≡ false }
-    ensures printed { OnOk result (Writes O.contents writer.old writer.new text.now) }
-    ensures flushed { OnOk result (has_unflushed writer.new ≡ false) }
-    ensures said { OnOk result (said.new.items ≡ failures.items) }
-    ensures unsaid { OnErr result (said.new ≡ said.old) }
-    ensures write_failed { (result ≡ Err WriteFailed) ↔ (has_failed writer.new ≡ true) }
-    ensures only { IfErr result (λ fault. fault ≡ WriteFailed) }
-{
-    write_text(writer, text)?;
-    *said = failures;
-    Ok(())
-}
-
 // Runs the script of threads that a reader gives as one that is checked, keeps its drill where that is
 // asked for, writes what it prints, and sets what is said to that of the lines that fail; or, where it
 // is refused for a bad line, to what was wanted of its bad lines.
@@ -167,7 +151,7 @@ fn run_checked<R: Threads + Wait + Sync + Files + AllocGlobal, I: Read, O: Write
         said: failures,
         ..
     } = run;
-    write_checked(writer, text.as_bytes(), failures, said)
+    write_saying(writer, text.as_bytes(), failures, said)
 }
 
 /// Runs the script of threads that a reader gives as one that is checked, and may keep its drill: in
@@ -200,10 +184,8 @@ where
     ensures status { IfOk result (λ code.
         (exit_status code ≡ 0) ⊎ (exit_status code ≡ 1) ⊎ (exit_status code ≡ 3)) }
 {
-    if !options.force {
-        if let Some(path) = in_the_way(rt, options)? {
-            return refuse_kept(rt, &path, options);
-        }
+    if let Some(path) = in_the_way(rt, options)? {
+        return refuse_kept(rt, &path, options);
     }
     let mut said = Vec::new(rt.alloc());
     let run = run_checked(rt, options, reader, writer, &mut said);

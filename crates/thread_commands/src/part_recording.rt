@@ -13,7 +13,8 @@ ghost use Rattle.thread_plans.specs.Plans.{plan_in, plan_value};
 ghost use Rattle.drills.specs.Parts.{part_text};
 ghost use Rattle.thread_commands.specs.Recordings.{IsKept, KeepsParts, head_at};
 
-use crate::recording::{file_at, is_kept, unwritten};
+use crate::recording::{file_at, is_kept, told_of, unwritten};
+use crate::warning::write_saying;
 use drills::{PartHead, write_part};
 use packed_trace::Trace;
 use std::alloc::{AllocError, Global};
@@ -22,8 +23,8 @@ use std::fs::Files;
 use std::io::{BufWriter, Read, Write};
 use std::sync::Wait;
 use std::thread::Threads;
-use streams::{MOST_BYTES, ScriptFault, Watched, read_script, write_text};
-use thread_scripts::{Size, ThreadPlan, judged_output_of, play, read_plan_saying, warnings_of};
+use streams::{MOST_BYTES, ScriptFault, Watched, read_script};
+use thread_scripts::{Size, ThreadPlan, play, read_plan_saying};
 
 /// The most nodes of a cluster.
 const MOST_NODES: u8 = 32;
@@ -144,11 +145,8 @@ fn play_in_parts<R: Threads + Wait + Sync, D: Write, O: Write>(
 {
     let played = play(rt, alloc, plan)?;
     keep_parts(alloc, plan.size, &played.traces, files)?;
-    let (text, yes) = judged_output_of(alloc, plan, &played)?;
-    let warned = warnings_of(alloc, script, plan, &played, yes)?;
-    write_text(writer, text.as_bytes())?;
-    *said = warned;
-    Ok(())
+    let (text, warned) = told_of(alloc, script, plan, &played)?;
+    write_saying(writer, text.as_bytes(), warned, said)
 }
 
 /// Runs the script of threads that a reader gives, keeps the part of each node in a folder, and writes

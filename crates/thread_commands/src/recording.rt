@@ -1,7 +1,7 @@
 //! Recorded drills: a script of threads whose drill is kept.
 
 ghost use Rattle.std.specs.Prelude.{◌≡◌, ◌≢◌, ◌↔◌, ◌<◌, ◌≤◌, ◌⊎◌, ℕ, length, true, false, Err};
-ghost use Rattle.std.specs.Prelude.{IfErr, IfOk, OnErr, OnOk};
+ghost use Rattle.std.specs.Prelude.{string_bytes, vec_len, IfErr, IfOk, OnErr, OnOk};
 ghost use Rattle.streams.specs.declared.fault.ScriptFault.TheVariants.{BadLine, OutOfMemory};
 ghost use Rattle.streams.specs.declared.fault.ScriptFault.TheVariants.{ReadFailed, TooLong};
 ghost use Rattle.streams.specs.declared.fault.ScriptFault.TheVariants.{WriteFailed};
@@ -10,16 +10,17 @@ ghost use Rattle.streams.specs.Watched.{has_failed, has_unflushed};
 ghost use Rattle.thread_scripts.specs.Outputs.{PlaysSaying};
 ghost use Rattle.thread_plans.specs.BadLines.{bad_text};
 ghost use Rattle.thread_plans.specs.Plans.{plan_in, plan_value};
-ghost use Rattle.thread_commands.specs.Recordings.{IsKept, KeepsDrill};
+ghost use Rattle.thread_commands.specs.Recordings.{IsKept, IsTold, KeepsDrill};
 
+use crate::warning::write_saying;
 use drills::{DrillFault, write_drill};
-use std::alloc::Global;
+use std::alloc::{AllocError, Global};
 use std::fs;
 use std::fs::Files;
 use std::io::{BufWriter, Read, Write};
 use std::sync::Wait;
 use std::thread::Threads;
-use streams::{MOST_BYTES, ScriptFault, Watched, read_script, write_text};
+use streams::{MOST_BYTES, ScriptFault, Watched, read_script};
 use thread_scripts::{Played, ThreadPlan, judged_output_of, play, read_plan_saying, warnings_of};
 
 /// Why a drill wasn't written, as scripts tell it.
@@ -54,6 +55,25 @@ pub fn keep_drill<D: Write>(
     }
 }
 
+/// What a run of a script's plan prints, and what the script is warned of.
+pub fn told_of(
+    alloc: Global,
+    script: &[u8],
+    plan: &ThreadPlan<'_>,
+    played: &Played,
+) -> Result<(String, Vec<u8>), AllocError>
+    requires length { length script.now ≤ MOST_BYTES }
+    requires traces { vec_len played.now.traces ≡ plan.now.size.nodes }
+    ensures { IfOk result (λ told. IsTold script.now (plan_value plan.now)
+        played.now.traces.items played.now.lists.items
+        (played.now.start_faults.items, played.now.faults.items)
+        (string_bytes told.0) told.1.items) }
+{
+    let (text, yes) = judged_output_of(alloc, plan, played)?;
+    let warned = warnings_of(alloc, script, plan, played, yes)?;
+    Ok((text, warned))
+}
+
 // Plays the plan of a script, keeps its drill, and then writes what it prints and sets what is said to
 // what it is warned of.
 fn play_recorded<R: Threads + Wait + Sync, D: Write, O: Write>(
@@ -81,11 +101,8 @@ fn play_recorded<R: Threads + Wait + Sync, D: Write, O: Write>(
 {
     let played = play(rt, alloc, plan)?;
     keep_drill(alloc, &played, recorder)?;
-    let (text, yes) = judged_output_of(alloc, plan, &played)?;
-    let warned = warnings_of(alloc, script, plan, &played, yes)?;
-    write_text(writer, text.as_bytes())?;
-    *said = warned;
-    Ok(())
+    let (text, warned) = told_of(alloc, script, plan, &played)?;
+    write_saying(writer, text.as_bytes(), warned, said)
 }
 
 /// Writes to a file, from its beginning on.

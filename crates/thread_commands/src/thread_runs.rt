@@ -56,10 +56,8 @@ where
         MOST_BYTES < length input → HasStatus result 1) }
     ensures status { IfOk result (λ code. (exit_status code ≡ 0) ⊎ (exit_status code ≡ 1)) }
 {
-    if !options.force {
-        if let Some(path) = in_the_way(rt, options)? {
-            return refuse_kept(rt, &path, options);
-        }
+    if let Some(path) = in_the_way(rt, options)? {
+        return refuse_kept(rt, &path, options);
     }
     let mut said = Vec::new(rt.alloc());
     let run = run_saying(rt, options, reader, writer, &mut said);

@@ -1,15 +1,37 @@
 //! What goes wrong in a script of threads, said behind how it ended.
 
-ghost use Rattle.std.specs.Prelude.{◌≡◌, ◌≢◌, ◌↔◌, ◌⊎◌, [], true, false, IfOk, IsErr, IsOk};
+ghost use Rattle.std.specs.Prelude.{◌≡◌, ◌≢◌, ◌↔◌, ◌⊎◌, [], true, false, Err, IfErr, IfOk};
+ghost use Rattle.std.specs.Prelude.{IsErr, IsOk, OnErr, OnOk};
 ghost use Rattle.std.specs.Process.{exit_status};
 ghost use Rattle.streams.specs.Streams.{Writes};
-ghost use Rattle.streams.specs.Watched.{has_failed};
+ghost use Rattle.streams.specs.Watched.{has_failed, has_unflushed};
+ghost use Rattle.streams.specs.declared.fault.ScriptFault.TheVariants.{WriteFailed};
 ghost use Rattle.commands.specs.Statuses.{OnStatus};
 
 use commands::{finish_script, say};
 use std::io::Write;
 use std::process::ExitCode;
-use streams::{ScriptFault, Watched};
+use streams::{ScriptFault, Watched, write_text};
+
+/// Writes what a run prints, and then sets what is said.
+pub fn write_saying<O: Write>(
+    writer: &mut Watched<O>,
+    text: &[u8],
+    warned: Vec<u8>,
+    said: &mut Vec<u8>,
+) -> Result<(), ScriptFault>
+    requires { has_failed writer.old ≡ false }
+    ensures printed { OnOk result (Writes O.contents writer.old writer.new text.now) }
+    ensures flushed { OnOk result (has_unflushed writer.new ≡ false) }
+    ensures said { OnOk result (said.new.items ≡ warned.items) }
+    ensures unsaid { OnErr result (said.new ≡ said.old) }
+    ensures write_failed { (result ≡ Err WriteFailed) ↔ (has_failed writer.new ≡ true) }
+    ensures only { IfErr result (λ fault. fault ≡ WriteFailed) }
+{
+    write_text(writer, text)?;
+    *said = warned;
+    Ok(())
+}
 
 /// After a script of threads was run: prints why it was refused, if it was, and then what goes wrong in
 /// it, unless that isn't wanted. That this can't be written is no fault.

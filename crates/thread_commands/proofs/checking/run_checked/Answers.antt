@@ -13,9 +13,9 @@ returns-clause-ok g c =
     let is : IsChecked c.in_ok-script.script.items run.played.traces.items run.played.lists.items
     faults c.as_bytes.result.now run.said.items =
     rw (← c.as_slice.ensures.value, c.as_bytes.ensures.value) c.in_ok-run.ensures.ok in
-    checked_on_ok (Writes g.O.Write.contents c.args.writer.now c.write_checked.new.writer)
-    (λ s. c.write_checked.new.said.items ≡ s)
+    checked_on_ok (Writes g.O.Write.contents c.args.writer.now c.write_saying.new.writer)
+    (λ s. c.write_saying.new.said.items ≡ s)
     c.in_ok-script.script.items run.played.traces.items run.played.lists.items faults
     c.as_bytes.result.now run.said.items
-    c.write_checked.result (g.I.Read.remaining (inner_of c.args.reader.now)) c.in_ok-script.ensures.ok is
-    c.write_checked.ensures.printed c.write_checked.ensures.said
+    c.write_saying.result (g.I.Read.remaining (inner_of c.args.reader.now)) c.in_ok-script.ensures.ok is
+    c.write_saying.ensures.printed c.write_saying.ensures.said
