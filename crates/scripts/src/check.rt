@@ -10,6 +10,7 @@ ghost use Rattle.scripts.specs.Checks.{later_lines, line_checked, line_said, mee
 ghost use Rattle.scripts.specs.Checks.{checked_output, read_checked, read_said, settled, shown};
 ghost use Rattle.scripts.specs.Checks.{plain_output, skipping, taking, unchecked, waiting};
 ghost use Rattle.scripts.specs.Commands.{command_value};
+ghost use Rattle.scripts.specs.Faults.{bad_said, missing_said, why_bad, why_missing};
 ghost use Rattle.scripts.specs.Checking.{checking_of};
 ghost use Rattle.scripts.specs.Schedules.{GoesOn, LineGoesOn, RunsAsSchedule};
 ghost use Rattle.scripts.specs.Script.{after_line, after_read, command_in, echo_of, line_output};
@@ -139,6 +140,24 @@ fn push_missed(what: &mut Vec<u8>, expected: &[u8], answer: &[u8]) -> Result<(),
     what.extend_from_slice(shown(answer))
 }
 
+// Says what is wrong with a line that asks for this.
+fn say_wrong(
+    alloc: Global,
+    number: u32,
+    world: &Option<World>,
+    line: &[u8],
+    command: &Option<Command<'_>>,
+    said: &mut Vec<u8>,
+) -> Result<(), AllocError>
+    ensures { OnOk result (said.new.items ≡ said.old.items
+        ++ (bad_said number (why_bad world.now line.now (option_map command_value command.now))
+        ++ missing_said number (why_missing world.now (option_map command_value command.now)))) }
+{
+    say_bad(alloc, number, why_bad(world, line, command), said)?;
+    let missing = why_missing(alloc, world, command)?;
+    say_missing(alloc, number, missing, said)
+}
+
 impl Check {
     fn new(alloc: Global) -> Check
         ensures state { checking_of result ≡ unchecked }
@@ -217,10 +236,7 @@ impl Check {
             ≡ self.old.said.items ++ asked_said world.now (checking_of self.old) line.now) }
     {
         self.settle(alloc)?;
-        let bad = why_bad(world, line, command);
-        say_bad(alloc, self.number, bad, &mut self.said)?;
-        let missing = why_missing(alloc, world, command)?;
-        say_missing(alloc, self.number, missing, &mut self.said)
+        say_wrong(alloc, self.number, world, line, command, &mut self.said)
     }
 }
 

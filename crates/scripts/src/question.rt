@@ -2,9 +2,11 @@
 
 ghost use Rattle.std.specs.Prelude.{◌≡◌, false, IsOk, IfOk, Some, None, if◌then◌else◌};
 ghost use Rattle.actions.specs.Names.{is_name};
+ghost use Rattle.node_core.specs.Traces.{state_known};
 ghost use Rattle.scripts.specs.Commands.{question_value, list, report, rights, spent, hits};
 ghost use Rattle.scripts.specs.Replies.{Prints};
 ghost use Rattle.scripts.specs.Questions.{question_output, asked_output};
+ghost use Rattle.scripts.specs.Questions.{hits_named, rights_named, spent_named};
 
 use crate::command::Question;
 use crate::reply::print_refusal;
@@ -42,6 +44,21 @@ pub(crate) fn name_in(alloc: Global, text: &str) -> Result<Option<Name>, AllocEr
     }
 }
 
+fn rights_named(
+    alloc: Global,
+    node: &NodeCore,
+    name: &str,
+    term: u8,
+    of: u8,
+) -> Result<i128, AllocError>
+    ensures { IfOk result (λ left. left ≡ rights_named (state_known node.now) name.now term of) }
+{
+    match name_in(alloc, name)? {
+        Some(name) => Ok(node.rights(&name, term, of)),
+        None => Ok(0),
+    }
+}
+
 fn print_rights(
     alloc: Global,
     node: &NodeCore,
@@ -52,11 +69,17 @@ fn print_rights(
 ) -> Result<(), AllocError>
     ensures { Prints result out.old out.new (question_output node.now (rights name.now term of)) }
 {
-    let rights = match name_in(alloc, name)? {
-        Some(name) => node.rights(&name, term, of),
-        None => 0,
-    };
+    let rights = rights_named(alloc, node, name, term, of)?;
     writeln!(out, "{rights}")
+}
+
+fn spent_named(alloc: Global, node: &NodeCore, name: &str, term: u8) -> Result<u128, AllocError>
+    ensures { IfOk result (λ count. count ≡ spent_named (state_known node.now) name.now term) }
+{
+    match name_in(alloc, name)? {
+        Some(name) => Ok(node.spent(&name, term)),
+        None => Ok(0),
+    }
 }
 
 fn print_spent(
@@ -68,11 +91,17 @@ fn print_spent(
 ) -> Result<(), AllocError>
     ensures { Prints result out.old out.new (question_output node.now (spent name.now term)) }
 {
-    let spent = match name_in(alloc, name)? {
-        Some(name) => node.spent(&name, term),
-        None => 0,
-    };
+    let spent = spent_named(alloc, node, name, term)?;
     writeln!(out, "{spent}")
+}
+
+fn hits_named(alloc: Global, node: &NodeCore, name: &str) -> Result<u128, AllocError>
+    ensures { IfOk result (λ count. count ≡ hits_named (state_known node.now) name.now) }
+{
+    match name_in(alloc, name)? {
+        Some(name) => Ok(node.hits(&name)),
+        None => Ok(0),
+    }
 }
 
 fn print_hits(
@@ -83,10 +112,7 @@ fn print_hits(
 ) -> Result<(), AllocError>
     ensures { Prints result out.old out.new (question_output node.now (hits name.now)) }
 {
-    let hits = match name_in(alloc, name)? {
-        Some(name) => node.hits(&name),
-        None => 0,
-    };
+    let hits = hits_named(alloc, node, name)?;
     writeln!(out, "{hits}")
 }
 
