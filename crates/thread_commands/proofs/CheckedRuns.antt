@@ -15,23 +15,14 @@ use Rattle.thread_commands.specs.Checked.{FailsSaying}
 use Rattle.commands.specs.Statuses.{OnStatus}
 use Rattle.thread_commands.proofs.Warned.{items_of}
 
--- the script that was read is the input
-checked : (written told : List ℕ → Type 0) (script : List ℕ) (traces : Traces) (lists : Lists)
-    (refused : RunFaults) (text said : List ℕ) (input : Option (List ℕ)) → IfSome input (λ bytes. script ≡ bytes) →
-    IsChecked script traces lists refused text said → written text → told said →
-    IfSome input (λ bytes. ChecksSaying bytes written told)
-checked written told script traces lists refused text said None same is h s = tt
-checked written told script traces lists refused text said (Some bytes) same is h s =
-    (traces, lists, refused, text, said, subst (λ b. IsChecked b traces lists refused text said) same is, h, s)
-
+-- what it prints was written, and what fails in it is said
 pub checked_on_ok : {T E : Type 0} (written told : List ℕ → Type 0) (script : List ℕ) (traces : Traces) (lists : Lists)
-    (refused : RunFaults) (text said : List ℕ) (result : Result T E) (input : Option (List ℕ))
-    → IfSome input (λ bytes. script ≡ bytes) → IsChecked script traces lists refused text said →
-    OnOk result (written text) → OnOk result (told said) →
-    OnOk result (IfSome input (λ bytes. ChecksSaying bytes written told))
-checked_on_ok written told script traces lists refused text said (Err fault) input same is h s = tt
-checked_on_ok written told script traces lists refused text said (Ok done) input same is h s =
-    checked written told script traces lists refused text said input same is h s
+    (refused : RunFaults) (text said : List ℕ) (result : Result T E)
+    → IsChecked script traces lists refused text said → OnOk result (written text) → OnOk result (told said)
+    → OnOk result (ChecksSaying script written told)
+checked_on_ok written told script traces lists refused text said (Err fault) is h s = tt
+checked_on_ok written told script traces lists refused text said (Ok done) is h s =
+    (traces, lists, refused, text, said, is, h, s)
 
 -- nothing was said
 silent : (input : Option (List ℕ)) (written : List ℕ → Type 0) (said : List ℕ) → said ≡ [] →

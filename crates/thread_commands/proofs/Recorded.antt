@@ -1,7 +1,9 @@
 -- What a recorded run writes, where its reader tells its bytes.
-use Rattle.std.proofs.Common.{◌≡◌, List, ℕ, Option, Some, None, Result, Ok, Err, refl, subst, ◌∙◌}
-use Rattle.std.specs.Prelude.{IfSome, OnOk}
+use Rattle.std.proofs.Common.{◌≡◌, List, ℕ, Option, Some, None, Result, Ok, Err, refl, subst, ◌∙◌, inl, inr}
+use Rattle.std.specs.Prelude.{◌⊎◌, IfErr, IfSome, OnOk}
 use Rattle.streams.specs.Streams.{Writes}
+use Rattle.streams.specs.declared.fault.ScriptFault.{ScriptFault}
+use Rattle.streams.specs.declared.fault.ScriptFault.TheVariants as faults
 use Rattle.streams.specs.declared.watched.Watched.{Watched}
 use Rattle.audit.specs.Receipts.{Lists}
 use Rattle.audit.specs.Traces.{Traces}
@@ -34,15 +36,34 @@ kept Keeps contents old new script plan traces lists faults text warned said (Ok
       printed = w;
     }
 
--- the script that was read is the input, what it prints was written, and what it is warned of is said
+-- its script has a plan
 pub played : {O T E : Type 0} (Keeps : Traces → Lists → Type 0) (contents : O → Option (List ℕ)) (old new : Watched O)
-    (script : List ℕ) (plan : PlanValue) (said : List ℕ) (result : Result T E) (input : Option (List ℕ))
-    → IfSome input (λ bytes. script ≡ bytes) → plan_in script ≡ Ok plan →
-    OnOk result (IsKept Keeps script plan said contents old new)
-    → OnOk result (IfSome input (λ bytes. PlaysSaying bytes (Writes contents old new) (λ warned. said ≡ warned)))
-played Keeps contents old new script plan said (Err fault) input same planned h = tt
-played Keeps contents old new script plan said (Ok done) None same planned h = tt
-played Keeps contents old new script plan said (Ok done) (Some bytes) same planned h =
+    (script : List ℕ) (plan : PlanValue) (said : List ℕ) (result : Result T E)
+    → plan_in script ≡ Ok plan → OnOk result (IsKept Keeps script plan said contents old new)
+    → OnOk result (PlaysSaying script (Writes contents old new) (λ warned. said ≡ warned))
+played Keeps contents old new script plan said (Err fault) planned h = tt
+played Keeps contents old new script plan said (Ok done) planned h =
     let comes : ComesToSaying script h.text said =
     (plan, h.traces, h.lists, h.faults, h.explained, planned, h.legal, h.given, h.judged, h.warned) in
-    (h.text, said, subst (λ b. ComesToSaying b h.text said) same comes, h.printed, refl)
+    (h.text, said, comes, h.printed, refl)
+
+-- ---- what holds of the script that was read holds of the input
+
+pub in_input : (P : List ℕ → Type 0) (script : List ℕ) (input : Option (List ℕ))
+    → IfSome input (λ bytes. script ≡ bytes) → P script → IfSome input P
+in_input P script None same h = tt
+in_input P script (Some bytes) same h = subst P same h
+
+pub on_input : {T E : Type 0} (P : List ℕ → Type 0) (script : List ℕ) (result : Result T E) (input : Option (List ℕ))
+    → IfSome input (λ bytes. script ≡ bytes) → OnOk result (P script) → OnOk result (IfSome input P)
+on_input P script (Err fault) input same h = tt
+on_input P script (Ok done) input same h = in_input P script input same h
+
+-- ---- a fault of a run is of no line
+
+pub of_no_line : {T : Type 0} (result : Result T ScriptFault)
+    → IfErr result (λ fault. (fault ≡ faults.WriteFailed) ⊎ (fault ≡ faults.OutOfMemory))
+    → (line : ℕ) → result ≡ Err (faults.BadLine line) → ⊥
+of_no_line (Ok done) only line is = cc
+of_no_line (Err fault) (inl e) line is = cc
+of_no_line (Err fault) (inr e) line is = cc

@@ -5,7 +5,7 @@ ghost use Rattle.std.specs.Prelude.{All, IfErr, IfOk, OnErr, OnOk};
 ghost use Rattle.streams.specs.declared.fault.ScriptFault.TheVariants.{BadLine, OutOfMemory};
 ghost use Rattle.streams.specs.declared.fault.ScriptFault.TheVariants.{ReadFailed, TooLong};
 ghost use Rattle.streams.specs.declared.fault.ScriptFault.TheVariants.{WriteFailed};
-ghost use Rattle.streams.specs.Streams.{IfInput, Writes};
+ghost use Rattle.streams.specs.Streams.{Writes};
 ghost use Rattle.streams.specs.Watched.{has_failed, has_unflushed};
 ghost use Rattle.thread_scripts.specs.Outputs.{PlaysSaying};
 ghost use Rattle.thread_plans.specs.BadLines.{bad_text};
@@ -20,10 +20,10 @@ use packed_trace::Trace;
 use std::alloc::{AllocError, Global};
 use std::fs;
 use std::fs::Files;
-use std::io::{BufWriter, Read, Write};
+use std::io::{BufWriter, Write};
 use std::sync::Wait;
 use std::thread::Threads;
-use streams::{MOST_BYTES, ScriptFault, Watched, read_script};
+use streams::{MOST_BYTES, ScriptFault, Watched};
 use thread_scripts::{Size, ThreadPlan, play, read_plan_saying};
 
 /// The most nodes of a cluster.
@@ -149,51 +149,36 @@ fn play_in_parts<R: Threads + Wait + Sync, D: Write, O: Write>(
     write_saying(writer, text.as_bytes(), warned, said)
 }
 
-/// Runs the script of threads that a reader gives, keeps the part of each node in a folder, and writes
-/// what it prints; and sets what is said as `run_threads_warning` does. A script that can't be read
-/// leaves the folder as it was.
-pub fn run_in_parts<R: Threads + Wait + Sync + Files, I: Read, O: Write>(
+/// Runs a script of threads, keeps the part of each node in a folder, and writes what it prints; and sets
+/// what is said as `run_threads_warning` does. A script without a plan leaves the folder as it was.
+pub fn run_in_parts<R: Threads + Wait + Sync + Files, O: Write>(
     rt: &R,
     alloc: Global,
     folder: &str,
-    reader: &mut Watched<I>,
+    script: &[u8],
     writer: &mut Watched<O>,
     said: &mut Vec<u8>,
 ) -> Result<(), ScriptFault>
-    requires reader { has_failed reader.old ≡ false }
+    requires length { length script.now ≤ MOST_BYTES }
     requires writer { has_failed writer.old ≡ false }
     // The script has a plan, its whole output is written and flushed, and what is said is what it is
     // warned of.
-    ensures ok { OnOk result (IfInput I.remaining reader.old (λ input. PlaysSaying input
-        (Writes O.contents writer.old writer.new) (λ warned. said.new.items ≡ warned))) }
+    ensures ok { OnOk result (PlaysSaying script.now
+        (Writes O.contents writer.old writer.new) (λ warned. said.new.items ≡ warned)) }
     ensures flushed { OnOk result (has_unflushed writer.new ≡ false) }
     // The line is the first that is bad.
-    ensures bad_line { (line : ℕ) → result ≡ Err (BadLine line) →
-        IfInput I.remaining reader.old (λ input. plan_in input ≡ Err line) }
+    ensures bad_line { (line : ℕ) → result ≡ Err (BadLine line) → plan_in script.now ≡ Err line }
     ensures bad_said { (line : ℕ) → result ≡ Err (BadLine line) →
-        IfInput I.remaining reader.old (λ input. said.new.items ≡ bad_text input) }
+        said.new.items ≡ bad_text script.now }
     ensures unsaid { IfErr result (λ fault.
         ((line : ℕ) → fault ≢ BadLine line) → said.new ≡ said.old) }
-    ensures read_failed { (result ≡ Err ReadFailed) ↔ (has_failed reader.new ≡ true) }
-    ensures too_long { result ≡ Err TooLong →
-        IfInput I.remaining reader.old (λ input. MOST_BYTES < length input) }
+    ensures no_read { result ≢ Err ReadFailed }
+    ensures short { result ≢ Err TooLong }
     // After any other fault the writer is as it was.
     ensures unwritten { IfErr result (λ fault. fault ≢ WriteFailed → writer.new ≡ writer.old) }
     ensures write_failed { has_failed writer.new ≡ true → result ≡ Err WriteFailed }
-    // A longer script is too long, but where a read failed or memory was refused before.
-    ensures long { IfInput I.remaining reader.old (λ input. MOST_BYTES < length input →
-        (result ≡ Err TooLong) ⊎ (has_failed reader.new ≡ true) ⊎ (result ≡ Err OutOfMemory)) }
 {
-    let script = read_script(alloc, reader)?;
-    let plan = read_plan_saying(alloc, script.as_slice(), said)?;
+    let plan = read_plan_saying(alloc, script, said)?;
     let mut files = part_files(rt, alloc, folder, plan.size.nodes)?;
-    play_in_parts(
-        rt,
-        alloc,
-        script.as_slice(),
-        &plan,
-        &mut files,
-        writer,
-        said,
-    )
+    play_in_parts(rt, alloc, script, &plan, &mut files, writer, said)
 }

@@ -5,7 +5,7 @@ ghost use Rattle.std.specs.Prelude.{string_bytes, vec_len, IfErr, IfOk, OnErr, O
 ghost use Rattle.streams.specs.declared.fault.ScriptFault.TheVariants.{BadLine, OutOfMemory};
 ghost use Rattle.streams.specs.declared.fault.ScriptFault.TheVariants.{ReadFailed, TooLong};
 ghost use Rattle.streams.specs.declared.fault.ScriptFault.TheVariants.{WriteFailed};
-ghost use Rattle.streams.specs.Streams.{IfInput, Writes};
+ghost use Rattle.streams.specs.Streams.{Writes};
 ghost use Rattle.streams.specs.Watched.{has_failed, has_unflushed};
 ghost use Rattle.thread_scripts.specs.Outputs.{PlaysSaying};
 ghost use Rattle.thread_plans.specs.BadLines.{bad_text};
@@ -17,10 +17,10 @@ use drills::{DrillFault, write_drill};
 use std::alloc::{AllocError, Global};
 use std::fs;
 use std::fs::Files;
-use std::io::{BufWriter, Read, Write};
+use std::io::{BufWriter, Write};
 use std::sync::Wait;
 use std::thread::Threads;
-use streams::{MOST_BYTES, ScriptFault, Watched, read_script};
+use streams::{MOST_BYTES, ScriptFault, Watched};
 use thread_scripts::{Played, ThreadPlan, judged_output_of, play, read_plan_saying, warnings_of};
 
 /// Why a drill wasn't written, as scripts tell it.
@@ -131,51 +131,36 @@ pub fn is_kept<R: Files>(rt: &R, path: &str) -> bool {
     }
 }
 
-/// Runs the script of threads that a reader gives, keeps its drill in a file, and writes what it
-/// prints; and sets what is said as `run_threads_warning` does. A script that can't be read leaves the
-/// file as it was.
-pub fn run_recorded<R: Threads + Wait + Sync + Files, I: Read, O: Write>(
+/// Runs a script of threads, keeps its drill in a file, and writes what it prints; and sets what is said
+/// as `run_threads_warning` does. A script without a plan leaves the file as it was.
+pub fn run_recorded<R: Threads + Wait + Sync + Files, O: Write>(
     rt: &R,
     alloc: Global,
     path: &str,
-    reader: &mut Watched<I>,
+    script: &[u8],
     writer: &mut Watched<O>,
     said: &mut Vec<u8>,
 ) -> Result<(), ScriptFault>
-    requires reader { has_failed reader.old ≡ false }
+    requires length { length script.now ≤ MOST_BYTES }
     requires writer { has_failed writer.old ≡ false }
     // The script has a plan, its whole output is written and flushed, and what is said is what it is
     // warned of.
-    ensures ok { OnOk result (IfInput I.remaining reader.old (λ input. PlaysSaying input
-        (Writes O.contents writer.old writer.new) (λ warned. said.new.items ≡ warned))) }
+    ensures ok { OnOk result (PlaysSaying script.now
+        (Writes O.contents writer.old writer.new) (λ warned. said.new.items ≡ warned)) }
     ensures flushed { OnOk result (has_unflushed writer.new ≡ false) }
     // The line is the first that is bad.
-    ensures bad_line { (line : ℕ) → result ≡ Err (BadLine line) →
-        IfInput I.remaining reader.old (λ input. plan_in input ≡ Err line) }
+    ensures bad_line { (line : ℕ) → result ≡ Err (BadLine line) → plan_in script.now ≡ Err line }
     ensures bad_said { (line : ℕ) → result ≡ Err (BadLine line) →
-        IfInput I.remaining reader.old (λ input. said.new.items ≡ bad_text input) }
+        said.new.items ≡ bad_text script.now }
     ensures unsaid { IfErr result (λ fault.
         ((line : ℕ) → fault ≢ BadLine line) → said.new ≡ said.old) }
-    ensures read_failed { (result ≡ Err ReadFailed) ↔ (has_failed reader.new ≡ true) }
-    ensures too_long { result ≡ Err TooLong →
-        IfInput I.remaining reader.old (λ input. MOST_BYTES < length input) }
+    ensures no_read { result ≢ Err ReadFailed }
+    ensures short { result ≢ Err TooLong }
     // After any other fault the writer is as it was.
     ensures unwritten { IfErr result (λ fault. fault ≢ WriteFailed → writer.new ≡ writer.old) }
     ensures write_failed { has_failed writer.new ≡ true → result ≡ Err WriteFailed }
-    // A longer script is too long, but where a read failed or memory was refused before.
-    ensures long { IfInput I.remaining reader.old (λ input. MOST_BYTES < length input →
-        (result ≡ Err TooLong) ⊎ (has_failed reader.new ≡ true) ⊎ (result ≡ Err OutOfMemory)) }
 {
-    let script = read_script(alloc, reader)?;
-    let plan = read_plan_saying(alloc, script.as_slice(), said)?;
+    let plan = read_plan_saying(alloc, script, said)?;
     let mut recorder = file_at(rt, alloc, path)?;
-    play_recorded(
-        rt,
-        alloc,
-        script.as_slice(),
-        &plan,
-        &mut recorder,
-        writer,
-        said,
-    )
+    play_recorded(rt, alloc, script, &plan, &mut recorder, writer, said)
 }

@@ -1,21 +1,20 @@
 use Rattle.std.proofs.Common.{◌≡◌}
 use Rattle.streams.specs.Streams.{Writes}
 use Rattle.streams.specs.Watched.{inner_of}
-use Rattle.thread_scripts.specs.Calls.{RunFaults}
-use Rattle.thread_checks.specs.Checked.{IsChecked}
-use Rattle.thread_commands.proofs.CheckedRuns.{checked_on_ok}
+use Rattle.thread_checks.specs.Checked.{ChecksSaying, plain_text}
+use Rattle.thread_plans.specs.BadLines.{bad_text}
+use Rattle.thread_commands.proofs.Recorded.{in_input, on_input}
 use Rattle.thread_commands.proofs.checking.run_checked.Goals as goal
 
 pub returns-clause-ok : goal.returns-clause-ok
 returns-clause-ok g c =
-    let run = c.in_ok-run.run' in
-    let faults : RunFaults = (run.played.start_faults.items, run.played.faults.items) in
-    let is : IsChecked c.in_ok-script.script.items run.played.traces.items run.played.lists.items
-    faults c.as_bytes.result.now run.said.items =
-    rw (← c.as_slice.ensures.value, c.as_bytes.ensures.value) c.in_ok-run.ensures.ok in
-    checked_on_ok (Writes g.O.Write.contents c.args.writer.now c.write_saying.new.writer)
-    (λ s. c.write_saying.new.said.items ≡ s)
-    c.in_ok-script.script.items run.played.traces.items run.played.lists.items faults
-    c.as_bytes.result.now run.said.items
-    c.write_saying.result (g.I.Read.remaining (inner_of c.args.reader.now)) c.in_ok-script.ensures.ok is
-    c.write_saying.ensures.printed c.write_saying.ensures.said
+    let ran = rw c.as_slice.ensures.value at c.check_script.ensures.ok in
+    on_input (λ bytes. ChecksSaying bytes (Writes g.O.Write.contents c.args.writer.now c.check_script.new.writer)
+    (λ failed. c.check_script.new.said.items ≡ failed)) c.in_ok-script.script.items c.check_script.result
+    (g.I.Read.remaining (inner_of c.args.reader.now)) c.in_ok-script.ensures.ok ran
+
+pub returns-clause-bad_said : goal.returns-clause-bad_said
+returns-clause-bad_said g c = λ line bad.
+    let said = rw c.as_slice.ensures.value at (c.check_script.ensures.bad_said line bad) in
+    in_input (λ bytes. c.check_script.new.said.items ≡ bad_text (plain_text bytes)) c.in_ok-script.script.items
+    (g.I.Read.remaining (inner_of c.args.reader.now)) c.in_ok-script.ensures.ok said

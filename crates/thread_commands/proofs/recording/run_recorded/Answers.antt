@@ -1,11 +1,14 @@
-use Rattle.streams.specs.Watched.{inner_of}
 use Rattle.thread_plans.specs.Plans.{plan_value}
-use Rattle.thread_commands.proofs.Recorded.{played}
+use Rattle.thread_commands.proofs.Recorded.{of_no_line, played}
 use Rattle.thread_commands.proofs.recording.run_recorded.Goals as goal
 
 pub returns-clause-ok : goal.returns-clause-ok
 returns-clause-ok g c =
-    let planned = rw c.as_slice.ensures.value at c.in_ok-plan.ensures.ok in
-    let recorded = rw c.as_slice-2.ensures.value at c.play_recorded.ensures.ok in
-    played _ _ _ _ c.in_ok-script.script.items (plan_value c.in_ok-plan.plan) c.play_recorded.new.said.items
-    c.play_recorded.result (g.I.Read.remaining (inner_of c.args.reader.now)) c.in_ok-script.ensures.ok planned recorded
+    played _ _ _ _ c.args.script.now (plan_value c.in_ok-plan.plan) c.play_recorded.new.said.items
+    c.play_recorded.result c.in_ok-plan.ensures.ok c.play_recorded.ensures.ok
+
+pub returns-clause-bad_line : goal.returns-clause-bad_line
+returns-clause-bad_line g c = λ line bad. absurd (of_no_line c.play_recorded.result c.play_recorded.ensures.only line bad)
+
+pub returns-clause-bad_said : goal.returns-clause-bad_said
+returns-clause-bad_said g c = λ line bad. absurd (of_no_line c.play_recorded.result c.play_recorded.ensures.only line bad)
