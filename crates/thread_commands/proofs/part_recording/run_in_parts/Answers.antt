@@ -12,3 +12,9 @@ returns-clause-bad_line g c = λ line bad. absurd (of_no_line c.play_in_parts.re
 
 pub returns-clause-bad_said : goal.returns-clause-bad_said
 returns-clause-bad_said g c = λ line bad. absurd (of_no_line c.play_in_parts.result c.play_in_parts.ensures.only line bad)
+
+pub play_in_parts-requires-clause-files : goal.play_in_parts-requires-clause-files
+play_in_parts-requires-clause-files g c = λ κs lives. rw c.deref_mut.ensures.value c.in_ok-files.ensures.number
+
+pub play_in_parts-requires-clause-sound : goal.play_in_parts-requires-clause-sound
+play_in_parts-requires-clause-sound g c = λ κs lives. rw c.deref_mut.ensures.value c.in_ok-files.ensures.sound
