@@ -67,7 +67,7 @@ on_failed (Err e) some said fact h s k = tt
 on_failed (Ok code) some said fact h s k = λ z. k (h.0 z) s
 
 -- a run that was refused otherwise than for a bad line ends with 1, since nothing was said
-refused_unsaid : {T E : Type 0} (result : Result ExitCode E) (run : Result T ScriptFault) (fault : ScriptFault)
+pub refused_unsaid : {T E : Type 0} (result : Result ExitCode E) (run : Result T ScriptFault) (fault : ScriptFault)
     (said was : Vec ℕ Global) → ((line : ℕ) → fault ≢ faults.BadLine line) → was.items ≡ [] →
     IfErr run (λ f. ((line : ℕ) → f ≢ faults.BadLine line) → said ≡ was) →
     (said.items ≡ [] → IfOk result (λ code. (exit_status code ≡ 1) ↔ IsErr run)) → run ≡ Err fault →
@@ -98,3 +98,27 @@ too_long result run failed said was (Some bytes) most none unsaid refused reads 
         refused_unsaid result run faults.ReadFailed said was (λ line e. cc) none unsaid refused (reads.1 met)
     by_fault (inr (inr is)) =
         refused_unsaid result run faults.OutOfMemory said was (λ line e. cc) none unsaid refused is
+
+-- ---- a script of threads that isn't checked is refused where it is too long
+
+refused_at : {T E : Type 0} (result : Result ExitCode E) (run : Result T ScriptFault) (fault : ScriptFault) →
+    IfOk result (λ code. (exit_status code ≡ 1) ↔ IsErr run) → run ≡ Err fault →
+    IfOk result (λ code. exit_status code ≡ 1)
+refused_at (Err e) run fault refused is = tt
+refused_at (Ok code) (Ok x) fault refused is = cc
+refused_at (Ok code) (Err e) fault refused is = refused.1 refl
+
+pub refused_too_long : {T E : Type 0} (result : Result ExitCode E) (run : Result T ScriptFault) (failed : Type 0)
+    (input : Option (List ℕ)) (most : ℕ) → IfOk result (λ code. (exit_status code ≡ 1) ↔ IsErr run) →
+    (run ≡ Err faults.ReadFailed) ↔ failed →
+    IfSome input (λ bytes. most < length bytes →
+    (run ≡ Err faults.TooLong) ⊎ failed ⊎ (run ≡ Err faults.OutOfMemory)) →
+    IfSome input (λ bytes. most < length bytes → IfOk result (λ code. exit_status code ≡ 1))
+refused_too_long result run failed None most refused reads h = tt
+refused_too_long result run failed (Some bytes) most refused reads h = λ long. by_fault (h long)
+  where
+    by_fault : (run ≡ Err faults.TooLong) ⊎ failed ⊎ (run ≡ Err faults.OutOfMemory) →
+        IfOk result (λ code. exit_status code ≡ 1)
+    by_fault (inl is) = refused_at result run faults.TooLong refused is
+    by_fault (inr (inl met)) = refused_at result run faults.ReadFailed refused (reads.1 met)
+    by_fault (inr (inr is)) = refused_at result run faults.OutOfMemory refused is

@@ -1,6 +1,7 @@
 use Rattle.std.proofs.lemmas.Result.{on_ok_weaker}
 use Rattle.streams.specs.Streams.{Writes}
 use Rattle.streams.specs.Watched.{inner_of}
+use Rattle.thread_commands.proofs.CheckedRuns.{refused_too_long}
 use Rattle.thread_commands.proofs.Warned.{on_done, on_done_saying, on_refused_saying, plays, said_where_refused, saying}
 use Rattle.thread_commands.proofs.thread_runs.threads.Goals as goal
 
@@ -31,3 +32,8 @@ returns-clause-bad_said g c wanted =
     (Writes g.E.Write.contents c.args.errors.now c.finish_threads.new.errors)
     c.run_saying-run.new.said c.new-said.result input c.new-said.ensures.items
     c.run_saying-run.ensures.bad_said c.run_saying-run.ensures.unsaid refused (s unfailed))
+
+pub returns-clause-long : goal.returns-clause-long
+returns-clause-long g c =
+    refused_too_long c.finish_threads.result c.run_saying-run.result _ (g.I.Read.remaining (inner_of c.args.reader.now)) _
+    c.finish_threads.ensures.refused c.run_saying-run.ensures.read_failed c.run_saying-run.ensures.long
