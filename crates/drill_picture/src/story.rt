@@ -7,7 +7,7 @@ ghost use Rattle.message_format.specs.Messages.{entry_value};
 ghost use Rattle.node_calls.specs.Told.{reply_ref_told};
 ghost use Rattle.packed_trace.specs.Packed.{seen_told};
 ghost use Rattle.drill_picture.specs.Budgets.{budget_told, is_of_budget};
-ghost use Rattle.drill_picture.specs.Rights.{after_arrival, entry_covers, is_brought};
+ghost use Rattle.drill_picture.specs.Rights.{after_arrival, cell_covers, entry_covers, is_brought};
 ghost use Rattle.drill_picture.specs.Stories.{after_acting, after_bin, after_call, after_message};
 ghost use Rattle.drill_picture.specs.Stories.{after_place, first_story, left_by_message};
 ghost use Rattle.drill_picture.specs.Stories.{message_nodes, ran, sent_parcel, story_told};
@@ -58,22 +58,31 @@ fn ran(budget: &Budget<'_>, reply: ReplyRef<'_>) -> bool
     }
 }
 
-fn entry_covers(budget: &Budget<'_>, parcel: Parcel, entry: &NameEntry) -> bool
-    ensures { result ≡ entry_covers (budget_told budget.now) parcel (entry_value entry.now) }
+// Whether a cell of a message tells of a parcel, or of a later one between the same nodes.
+fn cell_covers(term: u8, parcel: Parcel, cell: (u8, u8, u8, u64)) -> bool
+    ensures { result ≡ cell_covers term parcel cell }
 {
-    if entry.name.text().as_bytes() != budget.name.as_bytes() {
-        return false;
-    }
-    if !same_stamp(entry.key.stamp(), budget.stamp) {
-        return false;
-    }
-    for cell in &entry.shifts {
-        let (term, from, to, total) = *cell;
-        if term == budget.term && from == parcel.from && to == parcel.to && parcel.total <= total {
+    let (of, from, to, total) = cell;
+    of == term && from == parcel.from && to == parcel.to && parcel.total <= total
+}
+
+fn cells_cover(term: u8, parcel: Parcel, cells: &[(u8, u8, u8, u64)]) -> bool
+    ensures { result ≡ list_any (cell_covers term parcel) cells.now }
+{
+    for cell in cells {
+        if cell_covers(term, parcel, *cell) {
             return true;
         }
     }
     false
+}
+
+fn entry_covers(budget: &Budget<'_>, parcel: Parcel, entry: &NameEntry) -> bool
+    ensures { result ≡ entry_covers (budget_told budget.now) parcel (entry_value entry.now) }
+{
+    entry.name.text().as_bytes() == budget.name.as_bytes()
+        && same_stamp(entry.key.stamp(), budget.stamp)
+        && cells_cover(budget.term, parcel, &entry.shifts)
 }
 
 // Whether one of these entries tells a parcel to the node that it is for.
