@@ -1,9 +1,10 @@
 //! The marks of a picture in which each call has one.
 
-ghost use Rattle.std.specs.Prelude.{◌≡◌};
+ghost use Rattle.std.specs.Prelude.{◌≡◌, ◌++◌};
 ghost use Rattle.stamp_register.specs.Keys.{stamp_text};
-ghost use Rattle.node_calls.specs.Told.{ask_ref_told, reply_ref_told};
+ghost use Rattle.node_calls.specs.Told.{ask_ref_told, grants, reply_ref_told, sets, shifts};
 ghost use Rattle.packed_trace.specs.Packed.{seen_told};
+ghost use Rattle.drill_picture.specs.Escaped.{escaped};
 ghost use Rattle.drill_picture.specs.Marks.{Adds, arrow_class, arrow_text, arrows_text};
 ghost use Rattle.drill_picture.specs.Marks.{at_text, call_text, name_at, point_text, title_of};
 ghost use Rattle.drill_picture.specs.Marks.{asked_text, label_of_reply, label_text, line_text};
@@ -25,43 +26,50 @@ use std::fmt::Write;
 // Of more messages only those are drawn that told something.
 const MOST_ARROWS: usize = 40;
 
+// A word, and a text of somebody else behind it.
+fn push_worded(out: &mut String, word: &str, text: &str) -> Result<(), AllocError>
+    ensures { Adds result out.old out.new (word.now ++ escaped text.now) }
+{
+    out.push_str(word)?;
+    push_escaped(out, text)
+}
+
+fn push_set(out: &mut String, name: &str, text: &str) -> Result<(), AllocError>
+    ensures { Adds result out.old out.new (asked_text (sets name.now text.now)) }
+{
+    push_worded(out, "set ", name)?;
+    push_worded(out, " ", text)
+}
+
+fn push_shift(out: &mut String, name: &str, term: u8, to: u8, amount: u64) -> Result<(), AllocError>
+    ensures { Adds result out.old out.new (asked_text (shifts name.now term to amount)) }
+{
+    push_worded(out, "shift ", name)?;
+    write!(out, " {term} {to} {amount}")
+}
+
+fn push_grant(out: &mut String, name: &str, term: u8, amount: u64) -> Result<(), AllocError>
+    ensures { Adds result out.old out.new (asked_text (grants name.now term amount)) }
+{
+    push_worded(out, "grant ", name)?;
+    write!(out, " {term} {amount}")
+}
+
 fn push_asked(out: &mut String, ask: AskRef<'_>) -> Result<(), AllocError>
     ensures { Adds result out.old out.new (asked_text (ask_ref_told ask.entry)) }
 {
     match ask {
-        AskRef::Set { name, text } => {
-            out.push_str("set ")?;
-            push_escaped(out, name)?;
-            out.push_str(" ")?;
-            push_escaped(out, text)
-        }
-        AskRef::Remove { name } => {
-            out.push_str("remove ")?;
-            push_escaped(out, name)
-        }
-        AskRef::Load { text } => {
-            out.push_str("load ")?;
-            push_escaped(out, text)
-        }
-        AskRef::Pass { name } => {
-            out.push_str("pass ")?;
-            push_escaped(out, name)
-        }
+        AskRef::Set { name, text } => push_set(out, name, text),
+        AskRef::Remove { name } => push_worded(out, "remove ", name),
+        AskRef::Load { text } => push_worded(out, "load ", text),
+        AskRef::Pass { name } => push_worded(out, "pass ", name),
         AskRef::Shift {
             name,
             term,
             to,
             amount,
-        } => {
-            out.push_str("shift ")?;
-            push_escaped(out, name)?;
-            write!(out, " {term} {to} {amount}")
-        }
-        AskRef::Grant { name, term, amount } => {
-            out.push_str("grant ")?;
-            push_escaped(out, name)?;
-            write!(out, " {term} {amount}")
-        }
+        } => push_shift(out, name, term, to, amount),
+        AskRef::Grant { name, term, amount } => push_grant(out, name, term, amount),
         AskRef::Emit { to } => write!(out, "emit {to}"),
         AskRef::Deliver { .. } => out.push_str("deliver"),
     }
