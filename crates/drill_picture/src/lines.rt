@@ -1,10 +1,12 @@
 //! A drill as lanes of text.
 
-ghost use Rattle.std.specs.Prelude.{◌≡◌, ◌<◌, ◌^◌, ◌≤◌, ◌++◌, ◌∷◌, [], OnOk, length, map, option_map};
-ghost use Rattle.std.specs.Prelude.{slice_get, IfOk, None, string_bytes};
+ghost use Rattle.std.specs.Prelude.{◌≡◌, ◌<◌, ◌^◌, ◌≤◌, ◌+◌, ◌*◌, ◌++◌, ◌∷◌, [], OnOk, codes, length, map};
+ghost use Rattle.std.specs.Prelude.{option_map, slice_get, IfOk, None, Some, string_bytes};
 ghost use Rattle.node_calls.specs.Told.{ask_ref_told};
 ghost use Rattle.packed_trace.specs.Packed.{seen_told};
+ghost use Rattle.drill_picture.specs.Bars.{own_of};
 ghost use Rattle.drill_picture.specs.Calls.{call_at};
+ghost use Rattle.drill_picture.specs.Picture.{calls_in};
 ghost use Rattle.drill_picture.specs.Lines.{AreLines, calls_from, cell_text, gap_text, lane_width};
 ghost use Rattle.drill_picture.specs.Lines.{lines_of, name_gap, name_of, name_text, names_below};
 ghost use Rattle.drill_picture.specs.Lines.{shown_byte, shown_length, spaces, subject_of};
@@ -89,6 +91,13 @@ fn push_spaces(out: &mut String, count: usize) -> Result<(), AllocError>
     Ok(())
 }
 
+fn push_spaced(out: &mut String, text: &str) -> Result<(), AllocError>
+    ensures { Adds result out.old out.new (codes " " ++ text.now) }
+{
+    out.push_str(" ")?;
+    out.push_str(text)
+}
+
 // What a call was about.
 fn push_subject(out: &mut String, ask: AskRef<'_>) -> Result<(), AllocError>
     ensures { Adds result out.old out.new (subject_of (ask_ref_told ask.entry)) }
@@ -98,26 +107,38 @@ fn push_subject(out: &mut String, ask: AskRef<'_>) -> Result<(), AllocError>
         | AskRef::Remove { name }
         | AskRef::Pass { name }
         | AskRef::Shift { name, .. }
-        | AskRef::Grant { name, .. } => {
-            out.push_str(" ")?;
-            out.push_str(name)
-        }
+        | AskRef::Grant { name, .. } => push_spaced(out, name),
         AskRef::Emit { to } => write!(out, " {to}"),
         AskRef::Load { .. } | AskRef::Deliver { .. } => Ok(()),
     }
 }
 
 // The word for a call's answer, and what it was about.
+fn push_words(out: &mut String, call: Seen<'_>) -> Result<(), AllocError>
+    ensures { Adds result out.old out.new (words_of (Some (seen_told call.entry))) }
+{
+    out.push_str(Sign::of(call.reply()).word())?;
+    push_subject(out, call.ask())
+}
+
+// The same of a call, if it is there.
 fn words_of(alloc: Global, call: Option<Seen<'_>>) -> Result<String, AllocError>
     ensures { IfOk result (λ words. string_bytes words
         ≡ words_of (option_map seen_told call.entry)) }
 {
     let mut words = String::new(alloc);
     if let Some(call) = call {
-        words.push_str(Sign::of(call.reply()).word())?;
-        push_subject(&mut words, call.ask())?;
+        push_words(&mut words, call)?;
     }
     Ok(words)
+}
+
+// A new line, and so many spaces.
+fn push_next_line(out: &mut String, lane: usize) -> Result<(), AllocError>
+    ensures { Adds result out.old out.new (codes "\n" ++ spaces lane) }
+{
+    out.push_str("\n")?;
+    push_spaces(out, lane)
 }
 
 // Up to the lane of a call, where so much of the line of the call before is written; in another column
@@ -135,11 +156,31 @@ fn push_gap(
     let lane = width * place.node as usize;
     match last {
         Some(last) if last.column == place.column => push_spaces(out, lane.saturating_sub(at)),
-        Some(_) | None => {
-            out.push_str("\n")?;
-            push_spaces(out, lane)
-        }
+        Some(_) | None => push_next_line(out, lane),
     }
+}
+
+// The call at a place, behind the one before it. Answers how much of the line is written then.
+fn push_call(
+    out: &mut String,
+    alloc: Global,
+    traces: &[Trace],
+    width: usize,
+    place: Place,
+    last: Option<Place>,
+    at: usize,
+) -> Result<usize, AllocError>
+    requires some { 1 ≤ width }
+    requires few { width ≤ 100 }
+    ensures text { Adds result out.old out.new (gap_text width place last at
+        ++ cell_text width (words_of (call_at traces.now place.node place.index))) }
+    ensures next { IfOk result (λ next. next ≡ width * place.node
+        + shown_length width (words_of (call_at traces.now place.node place.index))) }
+{
+    let words = words_of(alloc, call_at(traces, place.node as usize, place.index))?;
+    push_gap(out, width, place, last, at)?;
+    push_cell(out, width, words.as_bytes())?;
+    Ok(width * place.node as usize + shown_length(width, words.as_bytes()))
 }
 
 // The calls, each in its lane.
@@ -157,10 +198,7 @@ fn push_calls(
     let mut last = None;
     let mut at = 0;
     for place in places {
-        let words = words_of(alloc, call_at(traces, place.node as usize, place.index))?;
-        push_gap(out, width, *place, last, at)?;
-        push_cell(out, width, words.as_bytes())?;
-        at = width * place.node as usize + shown_length(width, words.as_bytes());
+        at = push_call(out, alloc, traces, width, *place, last, at)?;
         last = Some(*place);
     }
     Ok(())
@@ -237,6 +275,21 @@ fn push_waiting_of(
     push_waiting(out, node, placed, calls - placed)
 }
 
+fn push_waiting_at(
+    out: &mut String,
+    alloc: Global,
+    traces: &[Trace],
+    places: &[Place],
+    node: u8,
+) -> Result<(), AllocError>
+    ensures { Adds result out.old out.new (waiting_of node (length (own_of node places.now))
+        (calls_in (slice_get traces.now node))) }
+{
+    let own = own_of(alloc, node, places)?;
+    let calls = calls_in(traces, node as usize);
+    push_waiting_of(out, node as usize, own.len(), calls)
+}
+
 // What waits.
 fn push_all_waiting(
     out: &mut String,
@@ -249,8 +302,7 @@ fn push_all_waiting(
         (waiting_below traces.now places.now (length traces.now)) }
 {
     for node in 0..traces.len() {
-        let own = own_of(alloc, node as u8, places)?;
-        push_waiting_of(out, node, own.len(), calls_in(traces, node))?;
+        push_waiting_at(out, alloc, traces, places, node as u8)?;
     }
     Ok(())
 }
