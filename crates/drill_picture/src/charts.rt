@@ -1,6 +1,7 @@
 //! The charts of a picture.
 
-ghost use Rattle.std.specs.Prelude.{◌≡◌, ◌≤◌, ◌<◌, ◌+◌, ◌*◌, ◌^◌, length, map, max, min};
+ghost use Rattle.std.specs.Prelude.{◌≡◌, ◌≤◌, ◌<◌, ◌+◌, ◌++◌, ◌*◌, ◌^◌, codes, length, map, max, min};
+ghost use Rattle.std.specs.Prelude.{slice_index};
 ghost use Rattle.stamp_register.specs.Keys.{stamp_text};
 ghost use Rattle.drill_picture.specs.Budgets.{budget_told};
 ghost use Rattle.drill_picture.specs.Charts.{all_held, all_on_their_way, area_text, areas_text};
@@ -8,11 +9,12 @@ ghost use Rattle.drill_picture.specs.Charts.{axis_at, axis_text, band_at, band_t
 ghost use Rattle.drill_picture.specs.Charts.{budget_line, chart_of, chart_text, charts_from};
 ghost use Rattle.drill_picture.specs.Charts.{drop_of, edge_from, ground_at, ground_text, label_at};
 ghost use Rattle.drill_picture.specs.Charts.{label_text, labels_below, levels_of, places_text};
-ghost use Rattle.drill_picture.specs.Charts.{rights_text, step_text, sum_line, sums_text, term_text};
+ghost use Rattle.drill_picture.specs.Charts.{rights_text, step_text, sum_line, sum_upto, sums_text};
+ghost use Rattle.drill_picture.specs.Charts.{term_text};
 ghost use Rattle.drill_picture.specs.Marks.{Adds};
 
 use crate::budget::Budget;
-use crate::column::{Column, columns_of, is_band};
+use crate::column::{Column, above, columns_of, is_band};
 use crate::escaping::push_escaped;
 use crate::marks::{push_at, push_point};
 use crate::place::Place;
@@ -312,17 +314,32 @@ fn push_label(
     push_label_at(out, frame.top + (from + to) / 2 + 4, amount, words, node)
 }
 
+// How many rights a node has, and how many are on their way to it, where so many lie below.
+fn push_labels_of(
+    out: &mut String,
+    frame: Frame,
+    low: u64,
+    row: &Row,
+    node: u64,
+) -> Result<(), AllocError>
+    ensures { Adds result out.old out.new (label_text frame.top frame.most low
+        (slice_index row.now.held node) (codes " node ") node
+        ++ label_text frame.top frame.most (sum_upto low (slice_index row.now.held node))
+        (slice_index row.now.way node) (codes " to node ") node) }
+{
+    let held = row.held_by(node as usize);
+    push_label(out, frame, low, held, " node ", node)?;
+    let way = row.way_to(node as usize);
+    push_label(out, frame, low.saturating_add(held), way, " to node ", node)
+}
+
 fn push_labels(out: &mut String, frame: Frame, row: &Row, nodes: u64) -> Result<(), AllocError>
     ensures { Adds result out.old out.new (labels_below frame.top frame.most row.now nodes) }
 {
     let mut low = row.spent();
     for node in 0..nodes {
-        let held = row.held_by(node as usize);
-        push_label(out, frame, low, held, " node ", node)?;
-        low = low.saturating_add(held);
-        let way = row.way_to(node as usize);
-        push_label(out, frame, low, way, " to node ", node)?;
-        low = low.saturating_add(way);
+        push_labels_of(out, frame, low, row, node)?;
+        low = above(row, low, node);
     }
     Ok(())
 }

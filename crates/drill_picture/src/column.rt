@@ -1,9 +1,10 @@
 //! The columns of a chart.
 
-ghost use Rattle.std.specs.Prelude.{◌≡◌, ◌<◌, ◌+◌, ◌^◌, IfOk, length, map, slice_index};
+ghost use Rattle.std.specs.Prelude.{◌≡◌, ◌<◌, ◌+◌, ◌^◌, ◌++◌, ◌∷◌, [], IfOk, OnOk, length, map, slice_index};
 ghost use Rattle.drill_picture.specs.Budgets.{budget_told};
 ghost use Rattle.drill_picture.specs.Charts.{columns_below, is_band, levels_below, levels_of};
-ghost use Rattle.drill_picture.specs.Stories.{story_behind};
+ghost use Rattle.drill_picture.specs.Charts.{sum_upto};
+ghost use Rattle.drill_picture.specs.Stories.{after_bin, story_behind, story_told};
 
 use crate::budget::Budget;
 use crate::place::Place;
@@ -20,6 +21,15 @@ pub(crate) struct Column {
     levels: Vec<u64>,
 }
 
+/// What lies below the next node's rights, where so many lie below a node's.
+pub(crate) fn above(row: &Row, low: u64, node: u64) -> u64
+    ensures { result ≡ sum_upto (sum_upto low (slice_index row.now.held node))
+        (slice_index row.now.way node) }
+{
+    let held = low.saturating_add(row.held_by(node as usize));
+    held.saturating_add(row.way_to(node as usize))
+}
+
 impl Column {
     // The column of a row.
     fn of(alloc: Global, row: &Row, nodes: u64) -> Result<Column, AllocError>
@@ -29,9 +39,8 @@ impl Column {
         let mut low = row.spent();
         levels.push(low)?;
         for node in 0..nodes {
-            let held = low.saturating_add(row.held_by(node as usize));
-            low = held.saturating_add(row.way_to(node as usize));
-            levels.push(held)?;
+            levels.push(low.saturating_add(row.held_by(node as usize)))?;
+            low = above(row, low, node);
             levels.push(low)?;
         }
         Ok(Column { levels })
@@ -68,6 +77,28 @@ pub(crate) struct Columns {
     pub(crate) last: Row,
 }
 
+// The next column, behind the calls that it holds.
+fn add_column(
+    columns: &mut Vec<Column>,
+    story: &mut Story,
+    alloc: Global,
+    traces: &[Trace],
+    scale: &Scale,
+    places: &[Place],
+    budget: &Budget<'_>,
+    bin: u64,
+) -> Result<(), AllocError>
+    ensures story { OnOk result (story_told story.new ≡ after_bin traces.now scale.now places.now
+        (budget_told budget.now) bin (story_told story.old)) }
+    ensures columns { OnOk result (map levels_of columns.new.items ≡ map levels_of columns.old.items
+        ++ levels_below story.new.row scale.now.nodes ∷ []) }
+    ensures few { OnOk result (length columns.new.items ≡ length columns.old.items + 1) }
+{
+    story.add_bin(alloc, traces, scale, places, budget, bin)?;
+    columns.push(Column::of(alloc, &story.row, scale.nodes())?)?;
+    Ok(())
+}
+
 /// All columns of a picture, and the row behind the last.
 pub(crate) fn columns_of(
     alloc: Global,
@@ -85,8 +116,16 @@ pub(crate) fn columns_of(
     let mut story = Story::first(alloc, traces.len())?;
     let mut columns = Vec::new(alloc);
     for bin in 0..scale.shown() {
-        story.add_bin(alloc, traces, scale, places, budget, bin)?;
-        columns.push(Column::of(alloc, &story.row, scale.nodes())?)?;
+        add_column(
+            &mut columns,
+            &mut story,
+            alloc,
+            traces,
+            scale,
+            places,
+            budget,
+            bin,
+        )?;
     }
     let Story {
         row,
