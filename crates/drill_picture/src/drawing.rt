@@ -1,6 +1,7 @@
 //! The whole picture.
 
 ghost use Rattle.std.specs.Prelude.{◌≡◌, ◌-◌, ◌≤◌, length, map, slice_get, IfOk, string_bytes};
+ghost use Rattle.drill_picture.specs.Bars.{own_of};
 ghost use Rattle.drill_picture.specs.Budgets.{budget_told};
 ghost use Rattle.drill_picture.specs.Marks.{Adds};
 ghost use Rattle.drill_picture.specs.Picture.{IsPicture, body_text, calls_in, calls_text};
@@ -123,6 +124,22 @@ fn push_wait(
     )
 }
 
+// Marks what waits at a node.
+fn push_wait_of(
+    out: &mut String,
+    alloc: Global,
+    traces: &[Trace],
+    scale: &Scale,
+    places: &[Place],
+    node: u8,
+) -> Result<(), AllocError>
+    ensures { Adds result out.old out.new (wait_of scale.now node (own_of node places.now)
+        (calls_in (slice_get traces.now node))) }
+{
+    let own = own_of(alloc, node, places)?;
+    push_wait(out, scale, node, &own, calls_in(traces, node as usize))
+}
+
 // Marks what waits at each node.
 fn push_waits(
     out: &mut String,
@@ -135,14 +152,7 @@ fn push_waits(
         (waits_below traces.now scale.now places.now scale.now.nodes) }
 {
     for node in 0..scale.nodes() {
-        let own = own_of(alloc, node as u8, places)?;
-        push_wait(
-            out,
-            scale,
-            node as u8,
-            &own,
-            calls_in(traces, node as usize),
-        )?;
+        push_wait_of(out, alloc, traces, scale, places, node as u8)?;
     }
     Ok(())
 }
