@@ -19,7 +19,7 @@ use stamp_register::Stamp;
 use std::alloc::{AllocError, Global};
 
 /// The clock of a node, and the stamp of the setting that it has of a point, if it has one.
-#[derive(Clone, Copy, Debug)]
+#[derive(Clone, Copy)]
 pub(crate) struct Known {
     clock: u64,
     stamp: Option<Stamp>,

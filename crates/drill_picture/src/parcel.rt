@@ -1,7 +1,7 @@
 //! Rights that are on their way.
 
 /// Rights that a node sent to another, which doesn't know of them yet.
-#[derive(Clone, Copy, Debug)]
+#[derive(Clone, Copy)]
 pub(crate) struct Parcel {
     pub(crate) from: u8,
     pub(crate) to: u8,

@@ -9,7 +9,7 @@ use std::marker::Model;
 
 /// What a column of a chart shows: the rights that there are, how many were spent, how many each node
 /// holds, and how many are on their way to it. Whatever the calls are, they add up.
-#[derive(Debug, Drop)]
+#[derive(Drop)]
 pub(crate) struct Row {
     // What was counted and granted.
     whole: u64,
