@@ -7,7 +7,7 @@ ghost use Rattle.node_calls.specs.Told.{ask_told, reply_told, told};
 ghost use Rattle.drills.specs.Lines.{head_told, line_told, receipt_told};
 ghost use Rattle.drills.specs.Reading.{ask_member, begin_in, head_in, line_in, line_of, members_in};
 ghost use Rattle.drills.specs.Reading.{number_member, pair_in, receipt_in, reply_member};
-ghost use Rattle.drills.specs.Reading.{text_member, told_in, told_of, version_in, words_member};
+ghost use Rattle.drills.specs.Reading.{text_member, told_in, version_in, words_member};
 ghost use Rattle.drills.specs.Reading.{entry_alone, entry_in, head_alone, head_members_in};
 ghost use Rattle.drills.specs.Reading.{is_part, part_head_in, part_head_of};
 
@@ -44,18 +44,6 @@ fn members_in(value: &Value) -> usize
     }
 }
 
-// An entry of these parts, where each of them could be read.
-fn entry_of(ask: Option<Ask>, words: Option<Vec<u32>>, reply: Option<Reply>) -> Option<Entry>
-    ensures { option_map told result ≡ told_of
-        (option_map ask_told ask) (option_map vec_items words) (option_map reply_told reply) }
-{
-    Some(Entry {
-        ask: ask?,
-        words: words?,
-        reply: reply?,
-    })
-}
-
 fn ask_member(alloc: Global, value: &Value) -> Result<Option<Ask>, AllocError>
     ensures { IfOk result (λ ask. option_map ask_told ask ≡ ask_member (view value.now)) }
 {
@@ -86,10 +74,16 @@ fn reply_member(alloc: Global, value: &Value) -> Result<Option<Reply>, AllocErro
 fn told_in(alloc: Global, value: &Value) -> Result<Option<Entry>, AllocError>
     ensures { IfOk result (λ entry. option_map told entry ≡ told_in (view value.now)) }
 {
-    let ask = ask_member(alloc, value)?;
-    let words = words_member(alloc, value)?;
-    let reply = reply_member(alloc, value)?;
-    Ok(entry_of(ask, words, reply))
+    let Some(ask) = ask_member(alloc, value)? else {
+        return Ok(None);
+    };
+    let Some(words) = words_member(alloc, value)? else {
+        return Ok(None);
+    };
+    let Some(reply) = reply_member(alloc, value)? else {
+        return Ok(None);
+    };
+    Ok(Some(Entry { ask, words, reply }))
 }
 
 fn receipt_in(alloc: Global, value: &Value) -> Result<Option<Receipt>, AllocError>
