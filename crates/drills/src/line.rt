@@ -245,7 +245,10 @@ fn entry_alone(line: Line) -> Option<Entry>
         | Line::Trace { .. }
         | Line::List { .. }
         | Line::Receipt(_)
-        | Line::Part(_) => None,
+        | Line::Part(_) => {
+            drop(line);
+            None
+        }
     }
 }
 
@@ -270,7 +273,10 @@ fn head_alone(line: Line) -> Option<PartHead>
         | Line::Trace { .. }
         | Line::Entry(_)
         | Line::List { .. }
-        | Line::Receipt(_) => None,
+        | Line::Receipt(_) => {
+            drop(line);
+            None
+        }
     }
 }
 

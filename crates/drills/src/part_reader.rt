@@ -25,7 +25,7 @@ use std::io::{BufRead, BufReader, Read};
 use streams::Watched;
 
 /// What a reader of lines gives next.
-#[derive(Clone, Copy, Debug, PartialEq, Eq)]
+#[derive(Clone, Copy)]
 pub enum Next {
     /// A line that a newline ends.
     Line,
@@ -113,7 +113,10 @@ fn part_begun(alloc: Global, line: Line) -> Option<Part>
         | Line::Trace { .. }
         | Line::Entry(_)
         | Line::List { .. }
-        | Line::Receipt(_) => None,
+        | Line::Receipt(_) => {
+            drop(line);
+            None
+        }
     }
 }
 
@@ -135,13 +138,22 @@ fn part_grown(mut part: Part, line: Line) -> Result<Option<Part>, AllocError>
     ensures { IfOk result (λ next. option_map part_of next
         ≡ part_grown (part_of part) (line_told line)) }
 {
-    let Line::Entry(entry) = line else {
-        return Ok(None);
-    };
-    if put_entry(&mut part, entry)? {
-        Ok(Some(part))
-    } else {
-        Ok(None)
+    match line {
+        Line::Entry(entry) => {
+            if put_entry(&mut part, entry)? {
+                Ok(Some(part))
+            } else {
+                Ok(None)
+            }
+        }
+        Line::Head { .. }
+        | Line::Trace { .. }
+        | Line::List { .. }
+        | Line::Receipt(_)
+        | Line::Part(_) => {
+            drop(line);
+            Ok(None)
+        }
     }
 }
 

@@ -15,7 +15,7 @@ use packed_trace::Trace;
 use std::alloc::{AllocError, Global};
 
 /// The part whose lines come next.
-#[derive(Clone, Copy, Debug, PartialEq, Eq)]
+#[derive(Clone, Copy)]
 pub enum Place {
     /// None: no part began.
     Nowhere,
@@ -233,17 +233,24 @@ fn after_head(alloc: Global, mut so_far: SoFar, line: Line) -> Result<Option<SoF
 fn at_start(alloc: Global, line: Line) -> Option<SoFar>
     ensures { option_map so_far_of result ≡ at_start (line_told line) }
 {
-    let Line::Head { pieces } = line else {
-        return None;
-    };
-    Some(SoFar {
-        pieces,
-        drill: Drill {
-            traces: Vec::new(alloc),
-            lists: Vec::new(alloc),
-        },
-        place: Place::Nowhere,
-    })
+    match line {
+        Line::Head { pieces } => Some(SoFar {
+            pieces,
+            drill: Drill {
+                traces: Vec::new(alloc),
+                lists: Vec::new(alloc),
+            },
+            place: Place::Nowhere,
+        }),
+        Line::Trace { .. }
+        | Line::Entry(_)
+        | Line::List { .. }
+        | Line::Receipt(_)
+        | Line::Part(_) => {
+            drop(line);
+            None
+        }
+    }
 }
 
 /// The drill with a line more, or with its first one, where it can be read and stands in its place.
