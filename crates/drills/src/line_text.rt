@@ -1,7 +1,7 @@
 //! The lines of a recorded drill, and of a part, written.
 
 ghost use Rattle.std.specs.Prelude.{◌≡◌, false, IfOk, None, OnOk, string_bytes};
-ghost use Rattle.serde_json.specs.Data.{put};
+ghost use Rattle.serde_json.specs.Data.{put, string};
 ghost use Rattle.serde_json.specs.View.{members_view, view};
 ghost use Rattle.packed_trace.specs.Packed.{seen_told};
 ghost use Rattle.drills.specs.Fits.{LineFits, ToldFits, WordsFit};
@@ -39,19 +39,33 @@ fn list_value(alloc: Global, number: u64) -> Result<Value, AllocError>
     json!(in alloc; {"list": number})
 }
 
-// Puts a member into an object.
-fn put(
+// An object with one member more. It is handed on, so that an error on the way drops nothing.
+fn with_member(
     alloc: Global,
-    members: &mut Map<String, Value>,
+    mut members: Map<String, Value>,
     name: &str,
     value: Value,
-) -> Result<(), AllocError>
-    ensures { OnOk result (members_view members.new.entries
-        ≡ put name.now (view value) (members_view members.old.entries)) }
+) -> Result<Map<String, Value>, AllocError>
+    ensures { IfOk result (λ all. members_view all.entries
+        ≡ put name.now (view value) (members_view members.entries)) }
 {
     let name = String::from_str(alloc, name)?;
     drop(members.insert(name, value)?);
-    Ok(())
+    Ok(members)
+}
+
+// The same of a text.
+fn with_text(
+    alloc: Global,
+    members: Map<String, Value>,
+    name: &str,
+    text: &str,
+) -> Result<Map<String, Value>, AllocError>
+    ensures { IfOk result (λ all. members_view all.entries
+        ≡ put name.now (string text.now) (members_view members.entries)) }
+{
+    let text = String::from_str(alloc, text)?;
+    with_member(alloc, members, name, Value::String(text))
 }
 
 // The random draws of a call.
@@ -66,19 +80,22 @@ fn draws_value(alloc: Global, call: Seen<'_>) -> Result<Value, AllocError>
     }
 }
 
-// Puts what a call tells into an object.
-fn put_told(
+// An object with what a call tells.
+fn with_told(
     alloc: Global,
-    members: &mut Map<String, Value>,
+    members: Map<String, Value>,
     call: Seen<'_>,
-) -> Result<(), AllocError>
-    ensures members { OnOk result (members_view members.new.entries
-        ≡ with_told (seen_told call.entry) (members_view members.old.entries)) }
+) -> Result<Map<String, Value>, AllocError>
+    ensures members { IfOk result (λ all. members_view all.entries
+        ≡ with_told (seen_told call.entry) (members_view members.entries)) }
     ensures fits { OnOk result (ToldFits (seen_told call.entry)) }
 {
-    put(alloc, members, "ask", ask_value(alloc, call.ask())?)?;
-    put(alloc, members, "reply", reply_value(alloc, call.reply())?)?;
-    put(alloc, members, "words", draws_value(alloc, call)?)
+    let ask = ask_value(alloc, call.ask())?;
+    let members = with_member(alloc, members, "ask", ask)?;
+    let reply = reply_value(alloc, call.reply())?;
+    let members = with_member(alloc, members, "reply", reply)?;
+    let words = draws_value(alloc, call)?;
+    with_member(alloc, members, "words", words)
 }
 
 fn call_value(alloc: Global, call: Seen<'_>) -> Result<Value, AllocError>
@@ -86,8 +103,7 @@ fn call_value(alloc: Global, call: Seen<'_>) -> Result<Value, AllocError>
         (λ value. view value ≡ line_data (entry_line (seen_told call.entry))) }
     ensures fits { OnOk result (LineFits (entry_line (seen_told call.entry))) }
 {
-    let mut members = Map::new(alloc);
-    put_told(alloc, &mut members, call)?;
+    let members = with_told(alloc, Map::new(alloc), call)?;
     Ok(Value::Object(members))
 }
 
@@ -101,10 +117,9 @@ fn receipt_value(alloc: Global, receipt: &Receipt) -> Result<Value, AllocError>
     if *index > MAX_INDEX {
         return Err(AllocError);
     }
-    let mut members = Map::new(alloc);
-    put_told(alloc, &mut members, Seen::Entry(entry))?;
-    put(alloc, &mut members, "index", Value::from(*index))?;
-    put(alloc, &mut members, "node", Value::from(*node))?;
+    let members = with_told(alloc, Map::new(alloc), Seen::Entry(entry))?;
+    let members = with_member(alloc, members, "index", Value::from(*index))?;
+    let members = with_member(alloc, members, "node", Value::from(*node))?;
     Ok(Value::Object(members))
 }
 
@@ -119,15 +134,12 @@ fn part_head_value(alloc: Global, head: &PartHead) -> Result<Value, AllocError>
         cap,
         run,
     } = head;
-    let run = String::from_str(alloc, run)?;
-    let part = String::from_str(alloc, "part")?;
-    let mut members = Map::new(alloc);
-    put(alloc, &mut members, "cap", Value::from(*cap))?;
-    put(alloc, &mut members, "failreg", Value::String(part))?;
-    put(alloc, &mut members, "node", Value::from(*node))?;
-    put(alloc, &mut members, "nodes", Value::from(*nodes))?;
-    put(alloc, &mut members, "run", Value::String(run))?;
-    put(alloc, &mut members, "version", Value::from(1u64))?;
+    let members = with_member(alloc, Map::new(alloc), "cap", Value::from(*cap))?;
+    let members = with_text(alloc, members, "failreg", "part")?;
+    let members = with_member(alloc, members, "node", Value::from(*node))?;
+    let members = with_member(alloc, members, "nodes", Value::from(*nodes))?;
+    let members = with_text(alloc, members, "run", run)?;
+    let members = with_member(alloc, members, "version", Value::from(1u64))?;
     Ok(Value::Object(members))
 }
 

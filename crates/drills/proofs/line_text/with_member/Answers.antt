@@ -2,11 +2,11 @@ use Rattle.std.proofs.Common.{◌≡◌, string_bytes, ap, ◌∙◌, rules}
 use Rattle.serde_json.specs.Data.{put}
 use Rattle.serde_json.specs.View.{view, members_view}
 use Rattle.serde_json.proofs.Views.{members_view-insert_entry}
-use Rattle.drills.proofs.line_text.put.Goals as goal
+use Rattle.drills.proofs.line_text.with_member.Goals as goal
 
 pub returns : goal.returns
 returns c =
-    let old = c.args.members.now.entries in
+    let old = c.args.members.entries in
     let copied : string_bytes c.in_ok-name.name ≡ c.args.name.now = search rules in
     ap members_view c.in_ok-insert.ensures.entries ∙ members_view-insert_entry old c.in_ok-name.name c.args.value
     ∙ ap (λ k. put k (view c.args.value) (members_view old)) copied
