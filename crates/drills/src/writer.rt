@@ -4,7 +4,7 @@ ghost use Rattle.std.specs.Prelude.{◌≡◌, ◌++◌, ◌∷◌, [], ◌↔�
 ghost use Rattle.streams.specs.Watched.{has_failed, has_unflushed};
 ghost use Rattle.streams.specs.Streams.{Writes};
 ghost use Rattle.drills.specs.declared.fault.DrillFault.TheVariants.{OutOfMemory, WriteFailed};
-ghost use Rattle.drills.specs.Lines.{entry as entry_line, head_told, receipt_told};
+ghost use Rattle.drills.specs.Lines.{entry as entry_line, head_told, receipt as receipt_line, receipt_told};
 ghost use Rattle.drills.specs.Drills.{drill_in, drill_text, drill_told, list_lines, lists_told};
 ghost use Rattle.drills.specs.Drills.{newline, numbered, trace_lines, traces_told};
 ghost use Rattle.drills.specs.Parts.{CanBeRead, part_in, part_text, whole_part};
@@ -73,6 +73,24 @@ fn write_trace<W: Write>(
     write_calls(alloc, trace, writer)
 }
 
+// Writes receipts, one behind the other.
+fn write_receipts<W: Write>(
+    alloc: Global,
+    list: &[Receipt],
+    writer: &mut Watched<W>,
+) -> Result<(), DrillFault>
+    requires { has_failed writer.old ≡ false }
+    ensures ok { OnOk result (WritesLines W.contents writer.old writer.new
+        (map receipt_line (map receipt_told list.now))) }
+    ensures write_failed { (result ≡ Err WriteFailed) ↔ (has_failed writer.new ≡ true) }
+    ensures only { IfErr result (λ fault. (fault ≡ WriteFailed) ⊎ (fault ≡ OutOfMemory)) }
+{
+    for receipt in list {
+        write_line(writer, receipt_text(alloc, receipt)?)?;
+    }
+    Ok(())
+}
+
 // Writes a list of receipts.
 fn write_list<W: Write>(
     alloc: Global,
@@ -87,10 +105,7 @@ fn write_list<W: Write>(
     ensures only { IfErr result (λ fault. (fault ≡ WriteFailed) ⊎ (fault ≡ OutOfMemory)) }
 {
     write_line(writer, list_text(alloc, number)?)?;
-    for receipt in list {
-        write_line(writer, receipt_text(alloc, receipt)?)?;
-    }
-    Ok(())
+    write_receipts(alloc, list, writer)
 }
 
 fn write_traces<W: Write>(
