@@ -130,3 +130,27 @@ ends_bad old None number r e h line bad =
     subst (λ (n : ℕ). IfSome old (λ bytes. IsFirstBad (lines_in bytes) n)) same (is_first_bad old number h)
 ends_bad old (Some d) number r e h line bad =
     absurd (let told : ◌≡◌ {A = Result Drill DrillFault} (Ok d) (Err (BadLine line)) = sym e ∙ bad in cc)
+
+-- the same of the function of the bytes
+pub ends_whole : (old : Option (List ℕ)) (drill : Option Drill) (number : ℕ) (r : Result Drill DrillFault) →
+    r ≡ ok_or drill (BadLine number)
+    → IfSome old (λ bytes. drill_in bytes ≡ or_line number (option_map drill_of drill)) →
+    IfOk r (λ d. IfSome old (λ bytes. drill_in bytes ≡ Ok (drill_of d)))
+ends_whole old None number (Ok d) e h = absurd cc
+ends_whole old None number (Err fault) e h = tt
+ends_whole old (Some d) number (Err fault) e h = absurd cc
+ends_whole old (Some d) number (Ok other) e h =
+    let same : d ≡ other = cc in
+    subst (λ (d : Drill). IfSome old (λ bytes. drill_in bytes ≡ Ok (drill_of d))) same h
+
+pub ends_bad_line : (old : Option (List ℕ)) (drill : Option Drill) (number : ℕ) (r : Result Drill DrillFault) →
+    r ≡ ok_or drill (BadLine number)
+    → IfSome old (λ bytes. drill_in bytes ≡ or_line number (option_map drill_of drill)) → (line : ℕ) →
+    r ≡ Err (BadLine line)
+    → IfSome old (λ bytes. drill_in bytes ≡ Err line)
+ends_bad_line old None number r e h line bad =
+    let told : ◌≡◌ {A = Result Drill DrillFault} (Err (BadLine number)) (Err (BadLine line)) = sym e ∙ bad in
+    let same : number ≡ line = cc in
+    subst (λ (n : ℕ). IfSome old (λ bytes. drill_in bytes ≡ Err n)) same h
+ends_bad_line old (Some d) number r e h line bad =
+    absurd (let told : ◌≡◌ {A = Result Drill DrillFault} (Ok d) (Err (BadLine line)) = sym e ∙ bad in cc)
