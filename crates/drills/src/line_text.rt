@@ -24,7 +24,9 @@ const MAX_INDEX: u64 = 4_294_967_295;
 fn head_value(alloc: Global) -> Result<Value, AllocError>
     ensures { IfOk result (λ value. view value ≡ line_data (head_line false)) }
 {
-    json!(in alloc; {"failreg": "drill", "version": 1u64})
+    let members = with_text(alloc, Map::new(alloc), "failreg", "drill")?;
+    let members = with_member(alloc, members, "version", Value::from(1u64))?;
+    Ok(Value::Object(members))
 }
 
 fn trace_value(alloc: Global, node: u64) -> Result<Value, AllocError>
