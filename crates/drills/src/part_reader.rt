@@ -18,6 +18,7 @@ ghost use Rattle.node_calls.specs.Told.{told};
 use crate::fault::DrillFault;
 use crate::line::{Line, line_in};
 use crate::part::{Part, PartHead};
+use crate::so_far::add_entry;
 use node_calls::Entry;
 use packed_trace::Trace;
 use std::alloc::{AllocError, Global};
@@ -128,8 +129,7 @@ fn put_entry(part: &mut Part, entry: Entry) -> Result<bool, AllocError>
     if part.trace.len() as u64 >= part.head.cap {
         return Ok(false);
     }
-    part.trace.reserve_entry()?;
-    part.trace.push_entry(entry);
+    add_entry(&mut part.trace, entry)?;
     Ok(true)
 }
 

@@ -1,6 +1,6 @@
 //! A recorded drill as far as it is read, line by line.
 
-ghost use Rattle.std.specs.Prelude.{◌≡◌, ◌∷◌, [], option_map, slice_get, IfOk};
+ghost use Rattle.std.specs.Prelude.{◌≡◌, ◌∷◌, ◌++◌, [], option_map, slice_get, IfOk, OnOk};
 ghost use Rattle.drills.specs.Lines.{line_told, receipt_told};
 ghost use Rattle.drills.specs.Drills.{IsPut, after_entry, after_head, after_line, after_list};
 ghost use Rattle.drills.specs.Drills.{after_receipt, after_text, after_trace, at_start, begun};
@@ -116,8 +116,16 @@ fn start_list(
     }
 }
 
-// Puts an entry behind the trace of a node, where there is one. A trace holds 2^32 calls at most, and
-// one more is out of memory.
+/// Puts an entry behind a trace, which holds 2^32 calls at most: one more is out of memory.
+pub(crate) fn add_entry(trace: &mut Trace, entry: Entry) -> Result<(), AllocError>
+    ensures { OnOk result (trace.new.calls ≡ trace.old.calls ++ told entry ∷ []) }
+{
+    trace.reserve_entry()?;
+    trace.push_entry(entry);
+    Ok(())
+}
+
+// Puts an entry behind the trace of a node, where there is one.
 fn push_entry(traces: &mut Vec<Trace>, node: u64, entry: Entry) -> Result<bool, AllocError>
     ensures { IfOk result (λ put. IsPut put
         (behind node (told entry ∷ []) (traces_told traces.old.items))
@@ -126,8 +134,7 @@ fn push_entry(traces: &mut Vec<Trace>, node: u64, entry: Entry) -> Result<bool, 
     let Some(trace) = traces.get_mut(node as usize) else {
         return Ok(false);
     };
-    trace.reserve_entry()?;
-    trace.push_entry(entry);
+    add_entry(trace, entry)?;
     Ok(true)
 }
 

@@ -1,4 +1,4 @@
-use Rattle.std.proofs.Common.{[], ◌∷◌, ◌++◌, length, refl, ap, ◌∙◌}
+use Rattle.std.proofs.Common.{[], ◌∷◌, length, refl}
 use Rattle.std.proofs.lemmas.Option.{slice_get_past, slice_get_read}
 use Rattle.node_calls.specs.Told.{told}
 use Rattle.drills.proofs.Parts.{none_behind, put_behind}
@@ -11,10 +11,8 @@ returns-in_default c =
 
 pub returns : goal.returns
 returns c =
-    let grown = c.push_entry.ensures.calls ∙ ap (λ calls. calls ++ told c.args.entry ∷ []) c.reserve_entry.ensures.calls
-    in
-    put_behind (λ trace. trace.calls) c.args.traces.now.items c.args.node c.in-Some.trace.now c.push_entry.new.self
+    put_behind (λ trace. trace.calls) c.args.traces.now.items c.args.node c.in-Some.trace.now c.add_entry.new.trace
     (told c.args.entry ∷ [])
     (slice_get_read c.args.traces.now.items (length c.args.traces.now.items) c.args.node c.in-Some.trace.now refl
     c.in-Some.ensures.item.3.0 c.in-Some.ensures.value)
-    grown
+    c.in_ok-add_entry.ensures
