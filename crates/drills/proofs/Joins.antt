@@ -10,7 +10,7 @@ use Rattle.packed_trace.specs.Packed.{Packed}
 use Rattle.packed_trace.proofs.Stays.{taken_one}
 use Rattle.drills.specs.declared.part.Part.{Part}
 use Rattle.drills.specs.declared.join_fault.JoinFault.{JoinFault}
-use Rattle.drills.specs.Lines.{HeadTold, head_told, receipt_told}
+use Rattle.drills.specs.Lines.{HeadTold, ReceiptTold, head_told, receipt_told}
 use Rattle.drills.specs.Drills.{DrillTold, lists_told, traces_told}
 use Rattle.drills.specs.Parts.{PartTold, part_of}
 use Rattle.drills.specs.Joined.{ListsAreTraces, at, drill_of_traces, first_of, first_other, is_beside, joined_by, joined_of, least, lists_from, nodes_of, parts_of, receipt_at, receipts_from, trace_of, traces_below}
@@ -271,33 +271,39 @@ lists_more n parts =
     ∙ ap (λ k. lists_from 0 (traces_below n parts) ++ receipts_from k 0 (trace_of n parts) ∷ []) place
 
 -- the same of the code's values
-pub one_receipt : (node : ℕ) (calls : List Told) (i : ℕ) (list longer : List Receipt) (r : Receipt) →
-    map receipt_told list ≡ receipts_from node 0 (take i calls) → longer ≡ list ++ r ∷ []
-    → r.node ≡ node → r.index ≡ i → slice_get calls i ≡ Some (told r.entry) →
-    map receipt_told longer ≡ receipts_from node 0 (take (i + 1) calls)
-one_receipt node calls i list longer r so_far grown of place is =
-    ap (map receipt_told) grown ∙ map-append receipt_told list (r ∷ [])
-    ∙ ap (λ rs. rs ++ receipt_told r ∷ []) so_far
-    ∙ ap (λ n. receipts_from node 0 (take i calls) ++ receipt_at n r.index (told r.entry) ∷ []) of
-    ∙ ap (λ k. receipts_from node 0 (take i calls) ++ receipt_at node k (told r.entry) ∷ []) place
-    ∙ sym (receipt_more node calls i (told r.entry) is)
+pub one_receipt : (node : ℕ) (calls : List Told) (i : ℕ) (list longer : List ReceiptTold) (t : Told) →
+    list ≡ receipts_from node 0 (take i calls) → longer ≡ list ++ receipt_at node i t ∷ []
+    → slice_get calls i ≡ Some t → longer ≡ receipts_from node 0 (take (i + 1) calls)
+one_receipt node calls i list longer t so_far grown is =
+    grown ∙ ap (λ rs. rs ++ receipt_at node i t ∷ []) so_far ∙ sym (receipt_more node calls i t is)
 
-pub one_trace : (n : ℕ) (parts : List PartTold) (traces longer : List Packed) (t : Packed) →
-    traces_told traces ≡ traces_below n parts → longer ≡ traces ++ t ∷ [] → t.calls ≡ trace_of n parts
-    → traces_told longer ≡ traces_below (n + 1) parts
-one_trace n parts traces longer t so_far grown is =
+pub trace_behind : (traces longer : List Packed) (t : Packed) (calls : List Told) → longer ≡ traces ++ t ∷ [] →
+    t.calls ≡ calls → traces_told longer ≡ traces_told traces ++ calls ∷ []
+trace_behind traces longer t calls grown is =
     ap traces_told grown ∙ map-append (λ (t : Packed). t.calls) traces (t ∷ [])
-    ∙ ap (λ ts. ts ++ t.calls ∷ []) so_far ∙ ap (λ calls. traces_below n parts ++ calls ∷ []) is
+    ∙ ap (λ calls. traces_told traces ++ calls ∷ []) is
+
+pub list_behind : (lists longer : List (Vec Receipt Global)) (l : Vec Receipt Global) (rs : List ReceiptTold) →
+    longer ≡ lists ++ l ∷ [] → map receipt_told l.items ≡ rs → lists_told longer ≡ lists_told lists ++ rs ∷ []
+list_behind lists longer l rs grown is =
+    ap lists_told grown ∙ map-append (λ (l : Vec Receipt Global). map receipt_told l.items) lists (l ∷ [])
+    ∙ ap (λ rs. lists_told lists ++ rs ∷ []) is
+
+-- one node more, of which nothing was taken out of the parts before
+pub one_trace : (n : ℕ) (parts : List PartTold) (traces longer : List (List Told)) (calls : List Told) →
+    traces ≡ traces_below n parts → longer ≡ traces ++ calls ∷ [] → calls ≡ trace_of n parts
+    → longer ≡ traces_below (n + 1) parts
+one_trace n parts traces longer calls so_far grown is =
+    grown ∙ ap (λ ts. ts ++ calls ∷ []) so_far ∙ ap (λ calls. traces_below n parts ++ calls ∷ []) is
     ∙ sym (traces_more n parts)
 
-pub one_list : (n : ℕ) (parts : List PartTold) (lists longer : List (Vec Receipt Global)) (l : Vec Receipt Global) →
-    lists_told lists ≡ lists_from 0 (traces_below n parts) → longer ≡ lists ++ l ∷ []
-    → map receipt_told l.items ≡ receipts_from n 0 (trace_of n parts)
-    → lists_told longer ≡ lists_from 0 (traces_below (n + 1) parts)
-one_list n parts lists longer l so_far grown is =
-    ap lists_told grown ∙ map-append (λ (l : Vec Receipt Global). map receipt_told l.items) lists (l ∷ [])
-    ∙ ap (λ ls. ls ++ map receipt_told l.items ∷ []) so_far
-    ∙ ap (λ rs. lists_from 0 (traces_below n parts) ++ rs ∷ []) is
+pub one_list : (n : ℕ) (parts : List PartTold) (lists longer : List (List ReceiptTold)) (calls : List Told) →
+    lists ≡ lists_from 0 (traces_below n parts) → longer ≡ lists ++ receipts_from n 0 calls ∷ []
+    → calls ≡ trace_of n parts
+    → longer ≡ lists_from 0 (traces_below (n + 1) parts)
+one_list n parts lists longer calls so_far grown is =
+    grown ∙ ap (λ ls. ls ++ receipts_from n 0 calls ∷ []) so_far
+    ∙ ap (λ calls. lists_from 0 (traces_below n parts) ++ receipts_from n 0 calls ∷ []) is
     ∙ sym (lists_more n parts)
 
 pub joined_ok : (parts : List PartTold) (nodes : ℕ) (d : DrillTold) → nodes_of parts ≡ Ok nodes →

@@ -1,22 +1,23 @@
 //! Parts to a drill.
 
-ghost use Rattle.std.specs.Prelude.{◌≡◌, ◌≢◌, ℕ, [], map, option_map, unwrap_or, IfErr, IfOk};
-ghost use Rattle.std.specs.Prelude.{Ok, Err};
+ghost use Rattle.std.specs.Prelude.{◌≡◌, ◌≢◌, ℕ, ◌∷◌, ◌++◌, [], map, option_map, unwrap_or, IfErr};
+ghost use Rattle.std.specs.Prelude.{IfOk, OnOk, Ok, Err};
 ghost use Rattle.node_calls.specs.Told.{Told};
 ghost use Rattle.drills.specs.declared.join_fault.JoinFault.TheVariants.{OutOfMemory};
-ghost use Rattle.drills.specs.Drills.{drill_of};
+ghost use Rattle.packed_trace.specs.Packed.{seen_told};
+ghost use Rattle.drills.specs.Drills.{drill_of, lists_told, traces_told};
 ghost use Rattle.drills.specs.Lines.{head_told, receipt_told};
 ghost use Rattle.drills.specs.Parts.{part_of};
 ghost use Rattle.drills.specs.Joined.{drill_of_traces, first_other, is_beside, is_doubled};
 ghost use Rattle.drills.specs.Joined.{is_missing, joined_of, least, nodes_of, parts_of};
-ghost use Rattle.drills.specs.Joined.{receipts_from, refusal_of, trace_of, traces_below};
+ghost use Rattle.drills.specs.Joined.{receipt_at, receipts_from, refusal_of, trace_of, traces_below};
 ghost use Rattle.drills.specs.Places.{place_from};
 
 use crate::drill::Drill;
 use crate::join_fault::JoinFault;
 use crate::part::{Part, PartHead};
 use node_calls::Receipt;
-use packed_trace::Trace;
+use packed_trace::{Seen, Trace};
 use std::alloc::{AllocError, Global};
 
 fn is_beside(first: &PartHead, head: &PartHead) -> bool
@@ -125,6 +126,26 @@ fn take_trace(alloc: Global, parts: &mut Vec<Part>, node: u8) -> Trace
     }
 }
 
+// Puts a receipt of a call behind those of the calls before it.
+fn push_receipt(
+    list: &mut Vec<Receipt>,
+    alloc: Global,
+    node: u8,
+    index: usize,
+    call: Seen<'_>,
+) -> Result<(), AllocError>
+    ensures { OnOk result (map receipt_told list.new.items ≡ map receipt_told list.old.items
+        ++ receipt_at node index (seen_told call.entry) ∷ []) }
+{
+    let entry = call.to_entry(alloc)?;
+    list.push(Receipt {
+        node,
+        index: index as u64,
+        entry,
+    })?;
+    Ok(())
+}
+
 // A receipt of each call of a node's trace.
 fn receipts_of(alloc: Global, node: u8, trace: &Trace) -> Result<Vec<Receipt>, AllocError>
     ensures { IfOk result (λ list. map receipt_told list.items
@@ -133,15 +154,33 @@ fn receipts_of(alloc: Global, node: u8, trace: &Trace) -> Result<Vec<Receipt>, A
     let mut list = Vec::new(alloc);
     for index in 0..trace.len() {
         if let Some(call) = trace.at(index) {
-            let entry = call.to_entry(alloc)?;
-            list.push(Receipt {
-                node,
-                index: index as u64,
-                entry,
-            })?;
+            push_receipt(&mut list, alloc, node, index, call)?;
         }
     }
     Ok(list)
+}
+
+// Takes the trace of a node out of the parts, and puts it behind those of a drill, with a list of its
+// receipts.
+fn add_node(
+    drill: &mut Drill,
+    alloc: Global,
+    parts: &mut Vec<Part>,
+    node: u8,
+) -> Result<(), AllocError>
+    ensures traces { OnOk result (traces_told drill.new.traces.items
+        ≡ traces_told drill.old.traces.items ++ trace_of node (map part_of parts.old.items) ∷ []) }
+    ensures lists { OnOk result (lists_told drill.new.lists.items
+        ≡ lists_told drill.old.lists.items
+        ++ receipts_from node 0 (trace_of node (map part_of parts.old.items)) ∷ []) }
+    ensures others { OnOk result ((other : ℕ) → other ≢ node
+        → trace_of other (map part_of parts.new.items)
+        ≡ trace_of other (map part_of parts.old.items)) }
+{
+    let trace = take_trace(alloc, parts, node);
+    drill.lists.push(receipts_of(alloc, node, &trace)?)?;
+    drill.traces.push(trace)?;
+    Ok(())
 }
 
 // The traces of so many nodes, in their order, with a list of receipts for each.
@@ -154,9 +193,7 @@ fn drill_in_order(alloc: Global, mut parts: Vec<Part>, nodes: u8) -> Result<Dril
         lists: Vec::new(alloc),
     };
     for node in 0..nodes {
-        let trace = take_trace(alloc, &mut parts, node);
-        drill.lists.push(receipts_of(alloc, node, &trace)?)?;
-        drill.traces.push(trace)?;
+        add_node(&mut drill, alloc, &mut parts, node)?;
     }
     Ok(drill)
 }
