@@ -1,12 +1,12 @@
 -- One more call stands.
-use Rattle.std.proofs.Common.{◌≡◌, inl, inr, ℕ, ◌+◌, ◌<◌, ◌≤◌, ◌==◌, cond, Bool, true, false, List, [], ◌∷◌, ◌++◌, ◌||◌, length, slice_index, slice_set, refl, sym, ◌∙◌, ap, arith, get_or-set_same, get_or-set_other}
+use Rattle.std.proofs.Common.{◌≡◌, inl, inr, ℕ, ◌+◌, ◌<◌, ◌≤◌, ◌==◌, cond, Bool, true, false, List, [], ◌∷◌, ◌++◌, ◌||◌, length, slice_index, slice_set, refl, sym, ◌∙◌, ap, add-one, arith, get_or-set_same, get_or-set_other}
 use Rattle.std.proofs.lemmas.Bool.Decides.{eqb_tells}
 use Rattle.std.proofs.lemmas.List.Folds.{list_any-append}
 use Rattle.std.proofs.lemmas.List.Sums.{sum_by_push}
 use Rattle.std.specs.List.{list_any}
 use Rattle.drill_picture.specs.declared.place.Place.{Place}
 use Rattle.drill_picture.specs.Calls.{Traces, call_at, makes}
-use Rattle.drill_picture.specs.Placing.{count_at, is_made}
+use Rattle.drill_picture.specs.Placing.{column_of, columns_of, count_at, is_made}
 
 or_cases : (a b : Bool) → (a || (b || false)) ≡ cond b true a
 or_cases true true = refl
@@ -62,3 +62,10 @@ counted_nowhere positions node n past inside =
           ap (λ t. slice_index positions n + cond t 1 0) w.0 in
           omega (arith, e4)
     ]
+
+-- one column more
+pub column_more : (traces : Traces) (column : ℕ) (old stand new : List Place) → old ≡ columns_of traces column →
+    stand ≡ column_of traces old column → new ≡ old ++ stand → new ≡ columns_of traces (column + 1)
+column_more traces column old stand new before is more =
+    rw add-one (more ∙ ap (λ places. places ++ stand) before
+    ∙ ap (λ places. columns_of traces column ++ places) (is ∙ ap (λ places. column_of traces places column) before))

@@ -1,3 +1,4 @@
 pub mod Growing
 pub mod Texts
+pub mod Levels
 pub mod Adds
