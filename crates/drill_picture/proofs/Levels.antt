@@ -16,7 +16,7 @@ pub levels_more : (row : RowTold) (node low held above : ℕ) (levels mid new : 
     → mid ≡ levels ++ held ∷ [] → new ≡ mid ++ above ∷ [] → new ≡ levels_below row (node + 1)
 levels_more row node low held above levels mid new h l s e first next =
     let sums : ℕ → List ℕ = λ low. sum_upto low (slice_index row.held node)
-        ∷ (sum_upto (sum_upto low (slice_index row.held node)) (slice_index row.way node) ∷ []) in
+    ∷ (sum_upto (sum_upto low (slice_index row.held node)) (slice_index row.way node) ∷ []) in
     rw add-one (next ∙ ap (λ xs. xs ++ above ∷ []) first ∙ append_assoc levels (held ∷ []) (above ∷ [])
     ∙ ap (λ xs. xs ++ (held ∷ (above ∷ []))) l ∙ ap (λ x. levels_below row node ++ (x ∷ (above ∷ []))) s
     ∙ ap (λ x. levels_below row node ++ (sum_upto low (slice_index row.held node) ∷ (x ∷ []))) e
