@@ -181,42 +181,33 @@ fn push_body(
 
 // The picture of calls that stand so.
 #[tactic(auto, unfolding(crate::specs::Picture::picture_of))]
-fn drawn(
+fn push_picture(
+    out: &mut String,
     alloc: Global,
     traces: &[Trace],
     headline: &str,
     wrong: Option<(u8, u32)>,
     budgets: &[Budget<'_>],
     placed: &Placed,
-) -> Result<String, AllocError>
+) -> Result<(), AllocError>
     requires traces { length traces.now ≤ 256 }
     requires budgets { length budgets.now ≤ 256 }
-    ensures { IfOk result (λ text. string_bytes text ≡ picture_of SHAPES.now LEGEND.now
+    ensures { Adds result out.old out.new (picture_of SHAPES.now LEGEND.now
         traces.now headline.now wrong (map budget_told budgets.now)
         placed.now.columns placed.now.places.items) }
 {
     let scale = Scale::of(traces.len(), placed.columns);
     let end = scale.lanes_end() + 130 * budgets.len() as u64;
-    let mut out = String::new(alloc);
-    push_head(&mut out, SHAPES, end + 76)?;
+    push_head(out, SHAPES, end + 76)?;
     push_heading(
-        &mut out,
+        out,
         scale.nodes(),
         placed.places.len(),
         placed.columns,
         headline,
     )?;
-    push_body(
-        &mut out,
-        alloc,
-        traces,
-        &scale,
-        &placed.places,
-        wrong,
-        budgets,
-    )?;
-    push_foot(&mut out, LEGEND, end)?;
-    Ok(out)
+    push_body(out, alloc, traces, &scale, &placed.places, wrong, budgets)?;
+    push_foot(out, LEGEND, end)
 }
 
 /// The picture of a drill's traces, which stand in the order of their nodes, as an SVG. Its heading
@@ -237,5 +228,7 @@ pub fn picture(
         traces.now headline.now wrong (map budget_told budgets.now) (string_bytes text)) }
 {
     let placed = place_calls(alloc, traces)?;
-    drawn(alloc, traces, headline, wrong, budgets, &placed)
+    let mut out = String::new(alloc);
+    push_picture(&mut out, alloc, traces, headline, wrong, budgets, &placed)?;
+    Ok(out)
 }

@@ -323,30 +323,29 @@ fn push_title(
 
 // The lines of calls that stand so.
 #[tactic(auto, unfolding(crate::specs::Lines::lines_of))]
-fn lines(
+fn push_lines(
+    out: &mut String,
     alloc: Global,
     traces: &[Trace],
     headline: &str,
     placed: &Placed,
-) -> Result<String, AllocError>
+) -> Result<(), AllocError>
     requires { length traces.now ≤ 256 }
-    ensures { IfOk result (λ text. string_bytes text
-        ≡ lines_of traces.now headline.now placed.now.columns placed.now.places.items) }
+    ensures { Adds result out.old out.new
+        (lines_of traces.now headline.now placed.now.columns placed.now.places.items) }
 {
     let width = lane_width(traces.len());
-    let mut out = String::new(alloc);
     push_title(
-        &mut out,
+        out,
         traces.len(),
         placed.places.len(),
         placed.columns,
         headline,
     )?;
-    push_names(&mut out, alloc, width, traces.len())?;
-    push_calls(&mut out, alloc, traces, width, &placed.places)?;
+    push_names(out, alloc, width, traces.len())?;
+    push_calls(out, alloc, traces, width, &placed.places)?;
     out.push_str("\n")?;
-    push_all_waiting(&mut out, alloc, traces, &placed.places)?;
-    Ok(out)
+    push_all_waiting(out, alloc, traces, &placed.places)
 }
 
 /// A drill's traces, which stand in the order of their nodes, as text for a terminal of 100 columns: a
@@ -358,5 +357,7 @@ pub fn picture_lines(alloc: Global, traces: &[Trace], headline: &str) -> Result<
     ensures { IfOk result (λ text. AreLines traces.now headline.now (string_bytes text)) }
 {
     let placed = place_calls(alloc, traces)?;
-    lines(alloc, traces, headline, &placed)
+    let mut out = String::new(alloc);
+    push_lines(&mut out, alloc, traces, headline, &placed)?;
+    Ok(out)
 }
