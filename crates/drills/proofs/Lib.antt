@@ -6,6 +6,7 @@ pub mod Folds
 pub mod Said
 pub mod Parts
 pub mod WordsRead
+pub mod JsonRows
 pub mod Taken
 pub mod Growing
 pub mod Grammars
