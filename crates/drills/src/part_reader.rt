@@ -162,10 +162,12 @@ fn part_after(alloc: Global, so_far: Option<Part>, bytes: &[u8]) -> Result<Optio
     ensures { IfOk result (λ next. option_map part_of next
         ≡ part_after (option_map part_of so_far) bytes.now) }
 {
-    match (so_far, line_in(alloc, bytes)?) {
-        (Some(part), Some(line)) => part_grown(part, line),
-        (None, Some(line)) => Ok(part_begun(alloc, line)),
-        (_, None) => Ok(None),
+    let Some(line) = line_in(alloc, bytes)? else {
+        return Ok(None);
+    };
+    match so_far {
+        Some(part) => part_grown(part, line),
+        None => Ok(part_begun(alloc, line)),
     }
 }
 

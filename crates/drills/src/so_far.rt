@@ -269,9 +269,11 @@ pub(crate) fn after_text(
     ensures { IfOk result (λ next. option_map so_far_of next
         ≡ after_text (option_map so_far_of so_far) bytes.now) }
 {
-    match (so_far, line_in(alloc, bytes)?) {
-        (Some(so_far), Some(line)) => after_head(alloc, so_far, line),
-        (None, Some(line)) => Ok(at_start(alloc, line)),
-        (_, None) => Ok(None),
+    let Some(line) = line_in(alloc, bytes)? else {
+        return Ok(None);
+    };
+    match so_far {
+        Some(so_far) => after_head(alloc, so_far, line),
+        None => Ok(at_start(alloc, line)),
     }
 }
