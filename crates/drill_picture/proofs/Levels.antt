@@ -1,5 +1,5 @@
 -- One node more of a column.
-use Rattle.std.proofs.Common.{◌≡◌, ℕ, ◌+◌, suc, List, [], ◌∷◌, ◌++◌, slice_index, ap, ◌∙◌, add-one, append_assoc}
+use Rattle.std.proofs.Common.{◌≡◌, ℕ, ◌+◌, List, [], ◌∷◌, ◌++◌, slice_index, ap, ◌∙◌, add-one, append_assoc}
 use Rattle.drill_picture.specs.Charts.{below, levels_below, sum_upto}
 use Rattle.drill_picture.specs.Rights.{RowTold}
 

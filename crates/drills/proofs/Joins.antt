@@ -5,7 +5,7 @@ use Rattle.std.proofs.lemmas.Bool.{cond-false, cond-true, eqb-true, ne_eqb}
 use Rattle.std.proofs.lemmas.List.{at_drop_all, at_drop_more, length-take-le, map-append}
 use Rattle.std.specs.declared.alloc.Global.{Global}
 use Rattle.node_calls.specs.declared.receipt.Receipt.{Receipt}
-use Rattle.node_calls.specs.Told.{Told, told}
+use Rattle.node_calls.specs.Told.{Told}
 use Rattle.packed_trace.specs.Packed.{Packed}
 use Rattle.packed_trace.proofs.Stays.{taken_one}
 use Rattle.drills.specs.declared.part.Part.{Part}
