@@ -1,5 +1,5 @@
 -- The marks of a picture in which each call has one, as text.
-use Rattle.std.specs.Prelude.{◌≡◌, ℕ, Bool, ◌||◌, ◌+◌, List, [], ◌++◌, length, nat_le, if◌then◌else◌, codes, decimal, Option, Some, None, Result, OnOk, String, string_bytes}
+use Rattle.std.specs.Prelude.{◌≡◌, ℕ, Bool, ◌||◌, List, [], ◌++◌, length, nat_le, if◌then◌else◌, codes, decimal, Option, Some, None, Result, OnOk, String, string_bytes}
 use Rattle.std.specs.declared.alloc.Global.{Global}
 use Rattle.std.specs.List.{flat_map}
 use Rattle.stamp_register.specs.Keys.{stamp_text}
