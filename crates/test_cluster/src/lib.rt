@@ -1,5 +1,5 @@
-//! Tests of clusters: a run of events, mailboxes, rounds of gossip; and of what plays and judges them:
-//! scripts, workers in threads, recorded drills and their audits.
+//! Tests of nodes behind locks and of clusters: what callers are told, a node that is made again of
+//! its calls, runs of events, mailboxes, and rounds of gossip.
 #![tactic(auto)]
 
 #[cfg(test)]

@@ -1,30 +1,26 @@
-//! What no contract says: what mailboxes carry, what the rounds of two nodes send, and what a wire that
-//! fails leaves behind; readers and writers that fail, that are slow or narrow, and that are watched;
-//! what a drill's text is; in which order an audit places entries; and that an audit explains what
-//! threads are told beside gossip. And a run of events, which no program makes.
+//! What no contract says: that what callers are told is what the trace has, and that two nodes have two
+//! locks; what mailboxes carry, what rounds send and when, and what a wire that fails leaves behind.
+//! And a run of events, and a node that is made again of its calls, which no program makes.
 
-mod audits;
 mod events;
 mod failing;
-mod failing_streams;
-mod kept_drills;
 mod mail;
-mod news;
+mod registry;
+mod resumed;
 mod rounds;
 mod stage;
-mod transfers;
-mod watched;
-mod workers;
 
-use cluster_model::{Event, RunReport, World};
+use actions::Name;
+use cluster_model::{Event, RunReport, World, WorldFault};
 use failing::{Failing, Fails};
 use gossip::WireError::{Failed, Full, NoPeer, OutOfMemory};
 use gossip::{
     Ended, GossipReport, MailWire, Pace, Reach, Wire, WireError, gossip_news, gossip_rounds,
 };
-use node_core::{AskRef, Config, Receipt, Reply};
-use node_registry::{Label, Registry, Seat};
-use stage::{EMPTY, FIRST_OF_THREE, FIRST_OF_TWO, SECOND_OF_TWO, list, opened};
+use node_core::{AskRef, Config, NodeCore, NodeFault, Receipt, Reply, Trace};
+use node_registry::{Label, PassOutcome, PassReceipt, Registry, Seat};
+use stage::{EMPTY, FIRST_OF_THREE, FIRST_OF_TWO, SECOND_OF_TWO, opened};
+use stamp_register::Stamp;
 use std::alloc::{AllocError, Global};
 use std::fmt::Debug;
 use std::marker::Brand;

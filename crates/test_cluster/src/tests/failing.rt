@@ -1,22 +1,24 @@
-//! A wire that fails once.
+//! A wire that fails.
 
 ghost use Rattle.std.specs.Prelude.{◌≡◌};
 
 use super::*;
 
-/// Which call fails, and why, after so many of its kind that went well.
+/// Which call fails, and why, after so many of its kind that went well; or each message that is sent.
 #[derive(Clone, Copy)]
 pub enum Fails {
     Never,
     Send(WireError, u32),
     Take(WireError, u32),
+    EachSend(WireError),
 }
 
-/// A wire of which one call fails, over one that doesn't fail.
+/// A wire of which calls fail, over one that doesn't fail. It says whether it reaches anybody.
 #[derive(Drop)]
 pub struct Failing<W> {
     pub inner: W,
     pub fails: Fails,
+    pub reaches: bool,
 }
 
 impl<W> Failing<W> {
@@ -24,6 +26,9 @@ impl<W> Failing<W> {
     fn send_error(&mut self) -> Option<WireError>
         ensures { self.new.inner ≡ self.old.inner }
     {
+        if let Fails::EachSend(error) = self.fails {
+            return Some(error);
+        }
         let Fails::Send(error, after) = self.fails else {
             return None;
         };
@@ -72,5 +77,13 @@ impl<W: Wire> Wire for Failing<W> {
             Some(error) => Err(error),
             None => self.inner.take(rt, alloc),
         }
+    }
+}
+
+impl<W: Wire> Reach for Failing<W> {
+    ghost reached = { λ w _. w.reaches };
+
+    fn reaches<R: Wait>(&mut self, _rt: &R, _alloc: Global, _to: u8) -> bool {
+        self.reaches
     }
 }

@@ -25,12 +25,24 @@ pub const FIRST_OF_THREE: Config = Config {
 /// What the second of three nodes, which knows nothing, tells the first.
 pub const EMPTY: &[u8] = b"FPG1\x01\0\0\0\0\0\0\0\0\0\0\0\0\0\0\0\0\0\0\0\0\0\0\0\0\0\0\0";
 
-/// A registry with one seat.
+fn load<L: Label, R: Wait>(
+    rt: &R,
+    alloc: Global,
+    registry: &Registry<L>,
+    seat: &mut Seat<L>,
+    points: &str,
+) -> Result<(), NodeFault> {
+    registry.load(rt, alloc, seat, points)?;
+    Ok(())
+}
+
+/// A registry with one seat, which has loaded these points as its only call.
 pub(super) fn opened<L: Label, R: Wait>(
     rt: &R,
     alloc: Global,
     blank: Blank,
     config: Config,
+    points: &str,
 ) -> Result<(Registry<L>, Seat<L>), Fail>
     requires name { blank.name ≡ L.name }
     requires parts { (blank.parts ≡ L.parts) × (L.parts ≡ 1) }
@@ -38,15 +50,7 @@ pub(super) fn opened<L: Label, R: Wait>(
     requires seed { replicate 32 0 ≡ L.seed }
 {
     let (registry, mut seats) = Registry::<L>::start(rt, alloc, blank, config, [0; 32], 1)?;
-    let seat = seats.pop().ok_or("a seat")?;
+    let mut seat = seats.pop().ok_or("a seat")?;
+    load(rt, alloc, &registry, &mut seat, points)?;
     Ok((registry, seat))
-}
-
-/// The points that a node lists.
-pub(super) fn list<L: Label, R: Wait>(
-    rt: &R,
-    alloc: Global,
-    registry: &Registry<L>,
-) -> Result<String, Fail> {
-    Ok(registry.with(rt, |node| node.list(alloc))?)
 }

@@ -3,7 +3,7 @@
 
 use actions::{ActionFault, SettingFault};
 use message_format::WireFault;
-use node_core::{NodeFault, TextFault};
+use node_calls::{NodeFault, TextFault};
 use std::alloc::{AllocError, Global};
 use std::test::Fail;
 

@@ -77,48 +77,6 @@ fn part<R: Replica>(
     Ok(replica)
 }
 
-/// Whether a node's marks of the terms of a name are as its rights to each say.
-fn marks_rights<R: Replica>(replica: &R, name: &Name, node: u8) -> bool {
-    let Some(found) = replica.key_and_rights(name, node) else {
-        return replica.key(name).is_none();
-    };
-    let marks = found.1;
-    let mut is_marked = replica.key(name) == Some(found.0);
-    for term in 0..16 {
-        let has_right = rights_at(replica, name, term, node) >= 1;
-        is_marked &= marks[usize::from(term)] == has_right;
-    }
-    is_marked
-}
-
-/// Whether two replicas answer equally of a name, and mark the rights. The greatest node and the
-/// greatest terms are in no operation.
-fn is_same_name<R: Replica, S: Replica>(left: &R, right: &S, name: &Name) -> bool {
-    let mut is_same = left.key(name) == right.key(name);
-    for node in 0..4 {
-        is_same &= marks_rights(left, name, node) && marks_rights(right, name, node);
-        for term in 0..5 {
-            for to in 0..4 {
-                let answers = answers_at(left, name, term, node, to);
-                is_same &= answers == answers_at(right, name, term, node, to);
-            }
-        }
-    }
-    is_same
-}
-
-/// Whether two replicas answer equally by every reader.
-fn is_same<R: Replica, S: Replica>(left: &R, right: &S, names: &[Name]) -> bool {
-    let mut is_same = true;
-    for name in names {
-        is_same &= is_same_name(left, right, name);
-    }
-    for place in 0..5 {
-        is_same &= left.name_at(place) == right.name_at(place);
-    }
-    is_same
-}
-
 /// The names of the run, and one that nobody names.
 fn all_of_run(alloc: Global) -> Result<Vec<Name>, AllocError> {
     let mut names = Vec::new(alloc);
@@ -135,118 +93,138 @@ const KNOWN: &[(&str, u64, u128, [u128; 3], [i128; 3])] = &[
     ("c", 4, 22, [0, 0, 0], [0, 0, 0]),
 ];
 
-fn clock_and_hits<R: Replica>(replica: &R, name: &Name) -> (u64, u128) {
-    (clock_of(replica, name), all_hits(replica, name))
+/// What a replica answers of a name, as the table has it, how many names there are, and whether this is
+/// the name at its place.
+type Known = ((u64, u128), [u128; 3], [i128; 3], (usize, bool));
+
+fn known<R: Replica>(replica: &R, name: &Name, place: usize) -> Known {
+    (
+        (clock_of(replica, name), replica.total_hits(name)),
+        [
+            replica.spent(name, 0),
+            replica.spent(name, 1),
+            replica.spent(name, 2),
+        ],
+        [
+            replica.rights(name, 0, 0),
+            replica.rights(name, 0, 1),
+            replica.rights(name, 0, 2),
+        ],
+        (replica.names(), replica.name_at(place) == Some(name)),
+    )
 }
 
-fn spent_of<R: Replica>(replica: &R, name: &Name) -> [u128; 3] {
-    [
-        all_spent(replica, name, 0),
-        all_spent(replica, name, 1),
-        all_spent(replica, name, 2),
-    ]
-}
-
-fn rights_of<R: Replica>(replica: &R, name: &Name) -> [i128; 3] {
-    [
-        rights_at(replica, name, 0, 0),
-        rights_at(replica, name, 0, 1),
-        rights_at(replica, name, 0, 2),
-    ]
-}
-
+/// Ends the test where a replica doesn't answer as the table has it.
 fn expect_known<R: Replica>(rt: &impl Abort, alloc: Global, replica: &R) -> Result<(), AllocError> {
-    for (text, clock, hits, spent, rights) in KNOWN {
+    for (place, (text, clock, hits, spent, rights)) in KNOWN.iter().enumerate() {
         let name = name(alloc, text)?;
-        expect(rt, &clock_and_hits(replica, &name), &(*clock, *hits));
-        expect(rt, &spent_of(replica, &name), spent);
-        expect(rt, &rights_of(replica, &name), rights);
+        let wanted = ((*clock, *hits), *spent, *rights, (KNOWN.len(), true));
+        expect(rt, &known(replica, &name, place), &wanted);
     }
-    expect(rt, &all_names(replica), &3);
     Ok(())
 }
 
-/// Ends the test where two replicas that learned the run, in its order and from its end, don't
-/// answer as another one.
-fn expect_orders<R: Replica, S: Replica>(
+/// Ends the test where a replica that learned the run doesn't answer as the table has it, or by each
+/// reader as the plain one.
+fn expect_whole<R: Replica>(
     rt: &impl Abort,
-    plain: &S,
+    alloc: Global,
+    replica: &R,
     names: &[Name],
-    (whole, backwards): &(R, R),
-) {
-    let are_same = (
-        is_same(plain, whole, names),
-        is_same(plain, backwards, names),
-        same(whole, backwards),
-    );
-    expect(rt, &are_same, &(true, true, true));
+    wanted: &[Answers],
+) -> Result<(), AllocError> {
+    expect_known(rt, alloc, replica)?;
+    let found = answers(alloc, replica, names)?;
+    expect(rt, &found.as_slice(), &wanted);
+    Ok(())
 }
 
 /// Ends the test where a replica that learns the run, in its order or from its end, doesn't answer
-/// as another one.
-fn learns_in_order<R: Replica, S: Replica>(
+/// so.
+fn learns_in_order<R: Replica>(
     rt: &impl Abort,
     alloc: Global,
-    plain: &S,
     names: &[Name],
+    wanted: &[Answers],
 ) -> Result<(), AllocError> {
-    let both: (R, R) = two(
-        part(rt, alloc, 0, RUN, false),
-        part(rt, alloc, 0, RUN, true),
-    )?;
-    expect_known(rt, alloc, &both.0)?;
-    expect_orders(rt, plain, names, &both);
+    for is_backwards in [false, true] {
+        let whole: R = part(rt, alloc, 0, RUN, is_backwards)?;
+        expect_whole(rt, alloc, &whole, names, wanted)?;
+    }
     Ok(())
 }
 
-/// Ends the test where two halves aren't below the whole, or don't come to it.
-fn join_to<R: Replica, S: Replica>(
+/// Ends the test where two halves don't come to the whole, in place of a copy of the first or beside
+/// both.
+fn expect_joined<R: Replica>(
     rt: &impl Abort,
     alloc: Global,
-    plain: &S,
+    (one, other): (&R, &R),
     names: &[Name],
-    whole: &R,
-    halves: (R, R),
+    wanted: &[Answers],
 ) -> Result<(), AllocError> {
-    let orders = (order(&halves.0, whole), order(&halves.1, whole));
-    expect(rt, &orders, &((true, false), (true, false)));
-    let is_whole = |both: &R| same(both, whole) && is_same(plain, both, names);
-    let orders = ((false, false), false);
-    expect_joins(rt, alloc, halves, orders, is_whole, &true)
+    let (grown, both) = two(grown(rt, alloc, one, other), one.joined(alloc, other))?;
+    let orders = (one.is_bottom(), order(one, &both), same(&grown, &both));
+    expect(rt, &orders, &(false, (true, false), true));
+    expect_whole(rt, alloc, &grown, names, wanted)?;
+    expect_whole(rt, alloc, &both, names, wanted)
+}
+
+/// Ends the test where two halves that know of different operations don't come to the whole, in either
+/// direction.
+fn expect_halves<R: Replica>(
+    rt: &impl Abort,
+    alloc: Global,
+    (one, other): (&R, &R),
+    names: &[Name],
+    wanted: &[Answers],
+) -> Result<(), AllocError> {
+    expect(rt, &order(one, other), &(false, false));
+    expect_joined(rt, alloc, (one, other), names, wanted)?;
+    expect_joined(rt, alloc, (other, one), names, wanted)
 }
 
 /// Ends the test where two replicas that learn a half of the run each don't come to what learns all
 /// of it.
-fn joins_halves<R: Replica, S: Replica>(
+fn joins_halves<R: Replica>(
     rt: &impl Abort,
     alloc: Global,
-    plain: &S,
     names: &[Name],
+    wanted: &[Answers],
 ) -> Result<(), AllocError> {
-    let whole: R = part(rt, alloc, 0, RUN, false)?;
-    let halves = two(
+    let (one, other): (R, R) = two(
         part(rt, alloc, 0, HALF, false),
         part(rt, alloc, HALF, RUN, false),
     )?;
-    join_to(rt, alloc, plain, names, &whole, halves)
+    expect_halves(rt, alloc, (&one, &other), names, wanted)
 }
 
 /// Ends the test where a replica doesn't come to what the plain one does.
-fn learns<R: Replica, S: Replica>(
+fn learns<R: Replica>(
     rt: &impl Abort,
     alloc: Global,
-    plain: &S,
     names: &[Name],
+    wanted: &[Answers],
 ) -> Result<(), AllocError> {
-    learns_in_order::<R, S>(rt, alloc, plain, names)?;
-    joins_halves::<R, S>(rt, alloc, plain, names)
+    learns_in_order::<R>(rt, alloc, names, wanted)?;
+    joins_halves::<R>(rt, alloc, names, wanted)
+}
+
+/// What the plain replica answers that learned the run.
+fn plain_answers(
+    rt: &impl Abort,
+    alloc: Global,
+    names: &[Name],
+) -> Result<Vec<Answers>, AllocError> {
+    let plain: OpSet = part(rt, alloc, 0, RUN, false)?;
+    answers(alloc, &plain, names)
 }
 
 #[test]
 fn one_run_in_several_orders(rt: HostRuntime) -> Result<(), Fail> {
     let names = all_of_run(rt.alloc())?;
-    let plain: OpSet = part(&rt, rt.alloc(), 0, RUN, false)?;
-    learns::<OpSet, OpSet>(&rt, rt.alloc(), &plain, &names)?;
-    learns::<Matrix, OpSet>(&rt, rt.alloc(), &plain, &names)?;
+    let wanted = plain_answers(&rt, rt.alloc(), &names)?;
+    learns::<OpSet>(&rt, rt.alloc(), &names, &wanted)?;
+    learns::<Matrix>(&rt, rt.alloc(), &names, &wanted)?;
     Ok(())
 }

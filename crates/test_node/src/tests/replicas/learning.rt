@@ -1,4 +1,4 @@
-//! What replicas learn.
+//! Replicas that learn operations.
 
 use super::*;
 
@@ -7,12 +7,11 @@ fn add<R: Replica>(alloc: Global, replica: &mut R, op: &Op) -> bool {
 }
 
 /// Learns an operation. If its memory is refused, nothing may have changed, and it is learned again.
-/// The operation is dropped here, once for all that learn one.
-fn learn<R: Replica>(rt: &impl Abort, alloc: Global, replica: &mut R, name: &Name, op: Op) {
+fn learn<R: Replica>(rt: &impl Abort, alloc: Global, replica: &mut R, name: &Name, op: &Op) {
     let before = seen(replica, name);
-    if !add(alloc, replica, &op) {
-        expect(rt, &seen(replica, name), &before);
-        expect(rt, &add(alloc, replica, &op), &true);
+    if !add(alloc, replica, op) {
+        expect(rt, &is_as_before(replica, name, &before), &true);
+        expect(rt, &add(alloc, replica, op), &true);
     }
 }
 
@@ -26,6 +25,6 @@ pub(super) fn learn_on<R: Replica>(
 ) -> Result<(), AllocError> {
     let name = name(alloc, text)?;
     let op = op_of(alloc, text, step)?;
-    learn(rt, alloc, replica, &name, op);
+    learn(rt, alloc, replica, &name, &op);
     Ok(())
 }

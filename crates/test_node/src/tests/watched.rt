@@ -3,13 +3,13 @@
 ghost use Rattle.std.specs.Prelude.{◌≤◌, length, IfOk};
 
 use super::expect;
-use scripts::Watched;
 use std::alloc::{AllocError, Global};
 use std::io;
 use std::io::{ErrorKind, Read, Write};
 use std::test::Fail;
+use streams::Watched;
 
-#[derive(Clone, Copy, Debug, PartialEq, Eq)]
+#[derive(Clone, Copy, PartialEq, Eq)]
 enum Method {
     Read,
     ReadExact,
@@ -154,18 +154,19 @@ const CALLS: &[Row] = &[
     (Method::WriteAll, BROKEN, 0, 0, BROKEN, true),
 ];
 
+// Whether a recorder noted this call alone, with the bytes that it was given.
+fn has_noted(recorder: &Recorder, method: Method, given: &[u8]) -> bool {
+    recorder.methods.as_slice() == [method].as_slice() && recorder.bytes.as_slice() == given
+}
+
 fn holds(alloc: Global, row: &Row) -> Result<bool, AllocError> {
     let (method, answer, length, filled, moved, failed) = *row;
     let given = bytes(alloc, length)?;
     let mut buf = bytes(alloc, length)?;
     let mut recorder = Recorder::new(alloc, answer);
-    let seen = called(&mut recorder, method, &mut buf);
-    Ok(
-        seen == (moved, failed)
-            && recorder.methods.as_slice() == [method].as_slice()
-            && recorder.bytes.as_slice() == given.as_slice()
-            && is_filled(&buf, &given, filled, method),
-    )
+    let is_told = called(&mut recorder, method, &mut buf) == (moved, failed);
+    let is_noted = has_noted(&recorder, method, &given);
+    Ok(is_told && is_noted && is_filled(&buf, &given, filled, method))
 }
 
 #[test]

@@ -3,11 +3,11 @@
 use super::expect;
 use super::transfers::{Narrow, Slow};
 use drills::{Drill, DrillFault, read_drill, write_drill};
-use scripts::Watched;
 use std::alloc::{AllocError, Global};
 use std::io::{BufReader, ErrorKind, Read, Write};
 use std::process::Abort;
 use std::test::Fail;
+use streams::Watched;
 
 // Each form of a line, a row and a task.
 const EVERY_FORM: &str = r#"{"failreg":"drill","version":1}
@@ -153,8 +153,8 @@ const BAD_FROM_THE_START: &[&str] = &[
     "{\"failreg\":\"drill\",\"version\":\"1\"}",
 ];
 
-/// Reads a drill, without what the contract says of it.
-pub(super) fn read<I: Read + Drop>(alloc: Global, reader: I) -> Result<Drill, DrillFault> {
+// Reads a drill, without what the contract says of it.
+fn read<I: Read + Drop>(alloc: Global, reader: I) -> Result<Drill, DrillFault> {
     match BufReader::new(alloc, Watched::new(reader)) {
         Ok(mut reader) => read_drill(alloc, &mut reader),
         Err(_) => Err(DrillFault::OutOfMemory),
@@ -173,11 +173,6 @@ fn again(alloc: Global, text: &str) -> Result<Vec<u8>, DrillFault> {
     let mut written = Vec::new(alloc);
     write(alloc, &drill, &mut written)?;
     Ok(written)
-}
-
-// Why a text is no drill.
-fn fault_of(alloc: Global, text: &str) -> Option<DrillFault> {
-    read(alloc, text.as_bytes()).err()
 }
 
 // Texts, and how each is written again.
@@ -202,8 +197,8 @@ fn behind_an_entry(alloc: Global, text: &str) -> Result<String, AllocError> {
 
 // Ends the test where it isn't for this line that a text is no drill.
 fn expect_bad_line(rt: &impl Abort, alloc: Global, text: &str, line: u64) {
-    let wanted = Some(DrillFault::BadLine { line });
-    expect(rt, &(text, fault_of(alloc, text)), &(text, wanted));
+    let found = (text, read(alloc, text.as_bytes()).err());
+    expect(rt, &found, &(text, Some(DrillFault::BadLine { line })));
 }
 
 #[test]
@@ -233,19 +228,15 @@ fn fault_behind(alloc: Global, bytes: usize, kind: ErrorKind) -> Option<DrillFau
     read(alloc, slow).err()
 }
 
-fn expect_failed_reads(rt: &impl Abort, alloc: Global, kind: ErrorKind) {
-    for bytes in [0, 3, ONE_ENTRY.len()] {
-        let found = fault_behind(alloc, bytes, kind);
-        expect(rt, &found, &Some(DrillFault::ReadFailed));
-    }
-}
-
 // What is read before a read fails is no drill, also where it ends with a line, and where the read was
 // made again.
 #[test]
 fn a_read_fails(rt: HostRuntime) {
     for kind in [ErrorKind::ConnectionReset, ErrorKind::Interrupted] {
-        expect_failed_reads(&rt, rt.alloc(), kind);
+        for bytes in [0, 3, ONE_ENTRY.len()] {
+            let found = fault_behind(rt.alloc(), bytes, kind);
+            expect(&rt, &found, &Some(DrillFault::ReadFailed));
+        }
     }
 }
 

@@ -1,5 +1,5 @@
 use Rattle.std.specs.Prelude.{replicate, true}
-use Rattle.test_cluster.proofs.tests.news.a_peer_that_is_gone_is_tried_less_often.Given as goal
+use Rattle.test_cluster.proofs.tests.rounds.tried_by.Given as goal
 
 abbrev pub ghosts-tried_in-L-Ledger : goal.ghosts-tried_in-L-Ledger
 ghosts-tried_in-L-Ledger g a = record { name = a.blank.name; parts = 1 }

@@ -1,5 +1,5 @@
 use Rattle.std.specs.Prelude.{replicate, true}
-use Rattle.test_cluster.proofs.tests.rounds.a_setting_comes_by_mail.Given as goal
+use Rattle.test_cluster.proofs.tests.rounds.mail_by.Given as goal
 
 abbrev pub ghosts-mail-L-Ledger : goal.ghosts-mail-L-Ledger
 ghosts-mail-L-Ledger g a = record { name = a.zero.name; parts = 1 }

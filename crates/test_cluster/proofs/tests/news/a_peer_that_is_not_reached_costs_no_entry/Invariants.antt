@@ -1,8 +1,0 @@
-use Rattle.std.specs.Prelude.{replicate, true}
-use Rattle.test_cluster.proofs.tests.news.a_peer_that_is_not_reached_costs_no_entry.Given as goal
-
-abbrev pub ghosts-tried_in-L-Ledger : goal.ghosts-tried_in-L-Ledger
-ghosts-tried_in-L-Ledger g a = record { name = a.blank.name; parts = 1 }
-
-abbrev pub ghosts-tried_in-L-Label : goal.ghosts-tried_in-L-Label
-ghosts-tried_in-L-Label g a = record { config = record { node = 0; nodes = 2; trace_cap = 100 }; seed = replicate 32 0; keeps = true }
