@@ -11,7 +11,7 @@ mod rounds;
 mod stage;
 
 use actions::Name;
-use cluster_model::{Event, RunReport, World, WorldFault};
+use cluster_model::{Event, RunReport, World};
 use failing::{Failing, Fails};
 use gossip::WireError::{Failed, Full, NoPeer, OutOfMemory};
 use gossip::{
@@ -28,6 +28,11 @@ use std::process::Abort;
 use std::sync::Wait;
 use std::sync::ledger::Blank;
 use std::test::Fail;
+
+/// A value in print.
+fn in_print<T: Debug>(alloc: Global, value: &T) -> Result<String, AllocError> {
+    format!(in alloc; "{value:?}")
+}
 
 /// Ends the test where what is found isn't what is wanted.
 fn expect<T: PartialEq + Debug>(rt: &impl Abort, found: &T, wanted: &T) {

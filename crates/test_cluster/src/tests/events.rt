@@ -33,21 +33,13 @@ fn run(alloc: Global, events: &[Event<'static>]) -> Result<RunReport, Fail> {
     Ok(world.run(alloc, events)?)
 }
 
-fn is_answered_so(report: &RunReport) -> bool {
-    matches!(
-        report.answers.as_slice(),
-        [
-            Err(WorldFault::NoMessage),
-            Ok(Reply::Set(Stamp { clock: 1, node: 1 })),
-            Err(WorldFault::NoNode),
-        ]
-    )
-}
-
 #[test]
 fn a_run_answers_each_event(rt: HostRuntime) -> Result<(), Fail> {
     let events = events(rt.alloc())?;
     let report = run(rt.alloc(), &events)?;
-    expect(&rt, &is_answered_so(&report), &true);
+    let found = in_print(rt.alloc(), &report)?;
+    let wanted = "RunReport { answers: [Err(NoMessage), Ok(Set(Stamp { clock: 1, node: 1 })), \
+                  Err(NoNode)] }";
+    expect(&rt, &found.as_str(), &wanted);
     Ok(())
 }

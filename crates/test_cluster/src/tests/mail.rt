@@ -43,15 +43,35 @@ fn taken<R: Wait>(rt: &R, alloc: Global, wire: &mut MailWire) -> Option<u8> {
     }
 }
 
+fn are_sent<R: Wait>(
+    rt: &R,
+    alloc: Global,
+    wire: &mut MailWire,
+    to: u8,
+    (from, until): (u8, u8),
+    answer: Result<(), WireError>,
+) -> bool {
+    for byte in from..until {
+        if sent(rt, alloc, wire, to, byte) != answer {
+            return false;
+        }
+    }
+    true
+}
+
+fn are_taken<R: Wait>(rt: &R, alloc: Global, wire: &mut MailWire, (from, until): (u8, u8)) -> bool {
+    for byte in from..until {
+        if taken(rt, alloc, wire) != Some(byte) {
+            return false;
+        }
+    }
+    taken(rt, alloc, wire).is_none()
+}
+
 fn holds<R: Wait>(rt: &R, alloc: Global, wire: &mut MailWire, mail: Mail) -> bool {
     match mail {
-        Mail::Send(to, (from, until), answer) => {
-            (from..until).all(|byte| sent(rt, alloc, wire, to, byte) == answer)
-        }
-        Mail::Take((from, until)) => {
-            (from..until).all(|byte| taken(rt, alloc, wire) == Some(byte))
-                && taken(rt, alloc, wire).is_none()
-        }
+        Mail::Send(to, bytes, answer) => are_sent(rt, alloc, wire, to, bytes, answer),
+        Mail::Take(bytes) => are_taken(rt, alloc, wire, bytes),
     }
 }
 

@@ -53,7 +53,7 @@ fn receipt_text<L: Label, R: Wait>(
     index: u64,
 ) -> Result<String, AllocError> {
     let receipt = registry.receipt(rt, alloc, seat, index)?;
-    format!(in alloc; "{receipt:?}")
+    in_print(alloc, &receipt)
 }
 
 // Whether each pass is answered so.

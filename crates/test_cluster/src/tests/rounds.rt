@@ -82,7 +82,11 @@ fn news_of<L: Label, W: Reach, R: Wait>(
 // How long the longest message of a round is.
 fn longest_of<L: Label, W: Wire, R: Wait>(rt: &R, alloc: Global, teller: &mut Teller<L, W>) -> u64 {
     let report = rounds_of(rt, alloc, teller, 1);
-    report.receipts.iter().map(message_len).max().unwrap_or(0)
+    let mut longest = 0;
+    for receipt in &report.receipts {
+        longest = longest.max(message_len(receipt));
+    }
+    longest
 }
 
 /// How a node tells what it knows: by rounds, or by rounds of news to its peer.
@@ -108,20 +112,21 @@ fn told_in<L: Label, R: Wait>(
 // What each of two nodes told in each round.
 type Told = ([u64; 8], [u64; 8]);
 
-// Eight rounds of each of two nodes in turn.
+// Eight rounds of each of two nodes in turn, and what the second lists in the end.
 fn in_turn<L: Label, M: Label, R: Wait>(
     rt: &R,
     alloc: Global,
     first: &mut Teller<L, MailWire>,
     second: &mut Teller<M, MailWire>,
     way: Way,
-) -> Told {
+) -> Result<(Told, String), Fail> {
     let (mut told, mut other_told) = ([0; 8], [0; 8]);
     for round in 0..8 {
         told[round] = told_in(rt, alloc, first, way);
         other_told[round] = told_in(rt, alloc, second, way);
     }
-    (told, other_told)
+    let shown = list(rt, alloc, &second.registry)?;
+    Ok(((told, other_told), shown))
 }
 
 // The points that a node lists.
@@ -159,8 +164,7 @@ fn mail<L: Label, M: Label, R: Wait>(
     let (wire, other) = two_wires(alloc)?;
     let mut first = seated::<L, MailWire, R>(rt, alloc, zero, FIRST_OF_TWO, "a=off", wire)?;
     let mut second = seated::<M, MailWire, R>(rt, alloc, one, SECOND_OF_TWO, "", other)?;
-    let told = in_turn(rt, alloc, &mut first, &mut second, way);
-    Ok((told, list(rt, alloc, &second.registry)?))
+    in_turn(rt, alloc, &mut first, &mut second, way)
 }
 
 fn mail_by<R: Wait>(rt: &R, alloc: Global, way: Way) -> Result<(Told, String), Fail> {
@@ -356,12 +360,18 @@ fn rounds_over_wires_that_fail(rt: HostRuntime) -> Result<(), Fail> {
     Ok(())
 }
 
-// Two hundred rounds of news: in which of them a message was made, and how many were lost.
+// How many calls a node has accepted.
+fn calls_of<L: Label, R: Wait>(rt: &R, registry: &Registry<L>) -> usize {
+    registry.with(rt, |node| node.trace().len())
+}
+
+// Two hundred rounds of news: in which of them a message was made, how many were lost, and how many
+// calls the node has accepted.
 fn tries<L: Label, R: Wait>(
     rt: &R,
     alloc: Global,
     teller: &mut Teller<L, Failing<MailWire>>,
-) -> Result<(Vec<u32>, u64), AllocError> {
+) -> Result<(Vec<u32>, u64, usize), Fail> {
     let (mut tried, mut all) = (Vec::new(alloc), 0u64);
     for round in 0u32..200 {
         let (made, lost) = news_of(rt, alloc, teller);
@@ -370,16 +380,16 @@ fn tries<L: Label, R: Wait>(
         }
         all = all.saturating_add(lost);
     }
-    Ok((tried, all))
+    Ok((tried, all, calls_of(rt, &teller.registry)))
 }
 
-// These at a node whose peer is gone, and how many calls the node has accepted.
+// These at a node whose peer is gone.
 fn tried_in<L: Label, R: Wait>(
     rt: &R,
     alloc: Global,
     blank: Blank,
     reaches: bool,
-) -> Result<((Vec<u32>, u64), usize), Fail>
+) -> Result<(Vec<u32>, u64, usize), Fail>
     requires name { blank.name ≡ L.name }
     requires parts { (blank.parts ≡ L.parts) × (L.parts ≡ 1) }
     requires config { FIRST_OF_TWO ≡ L.config }
@@ -398,16 +408,10 @@ fn tried_in<L: Label, R: Wait>(
         "a=off",
         wire,
     )?;
-    let tried = tries(rt, alloc, &mut teller)?;
-    let calls = teller.registry.with(rt, |node| node.trace().len());
-    Ok((tried, calls))
+    tries(rt, alloc, &mut teller)
 }
 
-fn tried_by<R: Wait>(
-    rt: &R,
-    alloc: Global,
-    reaches: bool,
-) -> Result<((Vec<u32>, u64), usize), Fail> {
+fn tried_by<R: Wait>(rt: &R, alloc: Global, reaches: bool) -> Result<(Vec<u32>, u64, usize), Fail> {
     tried_in::<Brand, R>(rt, alloc, Blank::new(1), reaches)
 }
 
@@ -423,7 +427,7 @@ const TRIES: &[(bool, &[u32], u64, usize)] = &[
 #[test]
 fn a_peer_that_is_gone_is_tried_less_often(rt: HostRuntime) -> Result<(), Fail> {
     for (reaches, rounds, lost, calls) in TRIES {
-        let ((tried, all), accepted) = tried_by(&rt, rt.alloc(), *reaches)?;
+        let (tried, all, accepted) = tried_by(&rt, rt.alloc(), *reaches)?;
         let found = (tried.as_slice(), all, accepted);
         expect(&rt, &found, &(*rounds, *lost, *calls));
     }
