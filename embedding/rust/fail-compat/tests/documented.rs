@@ -216,11 +216,19 @@ fn pause_ends_with_the_scenario() {
         let scenario = FailScenario::setup();
         cfg("number", "pause").unwrap();
         let (tell, told) = channel();
+        let (begin, begun) = channel();
         for _ in 0..THREADS {
-            let tell = tell.clone();
-            thread::spawn(move || tell.send(number()).unwrap());
+            let (begin, tell) = (begin.clone(), tell.clone());
+            thread::spawn(move || {
+                begin.send(()).unwrap();
+                tell.send(number()).unwrap()
+            });
         }
-        assert!(told.recv_timeout(SHORT).is_err());
+        for _ in 0..THREADS {
+            begun.recv().unwrap();
+        }
+        // Each is about to pass now, and waits before this is over.
+        assert!(told.recv_timeout(4 * SHORT).is_err());
         scenario.teardown();
         // The next scenario may set the same again: that is another setting, and none waits for it.
         let next = (round % 2 == 0).then(FailScenario::setup);
