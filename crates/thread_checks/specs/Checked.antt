@@ -8,10 +8,10 @@ use Rattle.thread_plans.specs.declared.plan.RoundKind.{RoundKind}
 use Rattle.thread_plans.specs.declared.plan.RoundKind.TheVariants as kinds
 use Rattle.thread_plans.specs.declared.plan.Rounds.{Rounds}
 use Rattle.thread_plans.specs.Plans.{PlanValue, plan_in}
-use Rattle.thread_scripts.specs.Calls.{RunFaults}
+use Rattle.thread_warnings.specs.Runs.{RunFaults}
+use Rattle.thread_warnings.specs.Warnings.{warned_text}
 use Rattle.thread_scripts.specs.Outputs.{IsJudged}
 use Rattle.thread_scripts.specs.Plays.{AreListsOf, AreTracesOf}
-use Rattle.thread_scripts.specs.Warnings.{warned_text}
 use Rattle.thread_checks.specs.declared.views.View.TheVariants as views
 use Rattle.thread_checks.specs.Scans.{scan_text}
 use Rattle.thread_checks.specs.Views.{all_rounds, view_of}

@@ -9,7 +9,7 @@ use Rattle.audit.specs.Traces.{Traces}
 use Rattle.streams.specs.declared.fault.ScriptFault.{ScriptFault}
 use Rattle.streams.specs.declared.fault.ScriptFault.TheVariants as faults
 use Rattle.thread_plans.specs.BadLines.{bad_text}
-use Rattle.thread_scripts.specs.Calls.{RunFaults}
+use Rattle.thread_warnings.specs.Runs.{RunFaults}
 use Rattle.thread_checks.specs.Checked.{ChecksSaying, IsChecked, plain_text}
 use Rattle.thread_commands.specs.Checked.{FailsSaying}
 use Rattle.commands.specs.Statuses.{OnStatus}

@@ -9,7 +9,7 @@ use Rattle.audit.specs.Receipts.{Lists}
 use Rattle.audit.specs.Traces.{Traces}
 use Rattle.thread_commands.specs.Recordings.{IsKept, IsTold}
 use Rattle.thread_plans.specs.Plans.{PlanValue, plan_in}
-use Rattle.thread_scripts.specs.Calls.{RunFaults}
+use Rattle.thread_warnings.specs.Runs.{RunFaults}
 use Rattle.thread_scripts.specs.Outputs.{ComesToSaying, PlaysSaying}
 use Rattle.thread_scripts.specs.Plays.{AreListsOf, AreTracesOf}
 

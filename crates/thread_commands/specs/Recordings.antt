@@ -10,10 +10,10 @@ use Rattle.streams.specs.Streams.{Writes}
 use Rattle.streams.specs.Watched.{has_unflushed}
 use Rattle.streams.specs.declared.watched.Watched.{Watched}
 use Rattle.thread_plans.specs.Plans.{PlanValue}
-use Rattle.thread_scripts.specs.Calls.{RunFaults}
+use Rattle.thread_warnings.specs.Runs.{RunFaults}
+use Rattle.thread_warnings.specs.Warnings.{warned_text}
 use Rattle.thread_scripts.specs.Outputs.{IsJudged}
 use Rattle.thread_scripts.specs.Plays.{AreListsOf, AreTracesOf}
-use Rattle.thread_scripts.specs.Warnings.{warned_text}
 
 -- what a run of a script's plan prints, and what the script is warned of
 pub record IsTold (script : List ℕ) (plan : PlanValue) (traces : Traces) (lists : Lists) (faults : RunFaults)

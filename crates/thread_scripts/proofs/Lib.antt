@@ -6,12 +6,6 @@ pub mod Made
 pub mod NodeLists
 pub mod Seats
 pub mod StartLines
-pub mod Unfits
-pub mod UnfitCalls
-pub mod Shorts
-pub mod ShortStarts
 pub mod Started
 pub mod Counted
-pub mod FaultCodes
 pub mod Faults
-pub mod RefusedStarts

@@ -16,8 +16,9 @@ use Rattle.audit.specs.Receipts.{Lists}
 use Rattle.gossip.specs.Mailboxes.{Place}
 use Rattle.thread_plans.specs.declared.plan.Rounds.{Rounds}
 use Rattle.thread_plans.specs.Plans.{BlockValue, PlanValue}
+use Rattle.thread_warnings.specs.Runs.{RunFaults}
 use Rattle.thread_scripts.specs.Asks.{asks_of_block}
-use Rattle.thread_scripts.specs.Calls.{HandsBack, RunFaults, faults_told, lack_memory}
+use Rattle.thread_scripts.specs.Calls.{HandsBack, faults_told, lack_memory}
 use Rattle.thread_scripts.specs.Gossips.{IsGossip}
 use Rattle.thread_scripts.specs.Plays.{AreListsBelow, AreOfNode, AreOfWork, Part, Worked, config_at, gossip_at}
 use Rattle.thread_scripts.proofs.Made.{faults_of_workers, lists_of_workers, of_blocks, worked_of}

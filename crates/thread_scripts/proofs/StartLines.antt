@@ -16,7 +16,8 @@ use Rattle.gossip.specs.declared.report.Ended.TheVariants as ends
 use Rattle.thread_plans.specs.declared.plan.StartLine.{StartLine}
 use Rattle.thread_plans.specs.Lines.{StartValue, spreads}
 use Rattle.thread_plans.specs.Plans.{start_line_value}
-use Rattle.thread_scripts.specs.Calls.{Adds, AreMade, AreOfLine, AreOfSpread, AreOfStarts, FaultList, StartFaults, faults_of, placed, no_call, accepted, refused, no_line, next_line}
+use Rattle.thread_warnings.specs.Runs.{FaultList, StartFaults}
+use Rattle.thread_scripts.specs.Calls.{Adds, AreMade, AreOfLine, AreOfSpread, AreOfStarts, faults_of, placed, no_call, accepted, refused, no_line, next_line}
 use Rattle.thread_scripts.proofs.Made.{take_more_at}
 
 pub done_of : (e : Ended) → e ≢ ends.OutOfMemory → e ≡ ends.Done

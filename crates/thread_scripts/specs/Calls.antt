@@ -15,6 +15,7 @@ use Rattle.gossip.specs.declared.report.GossipReport.{GossipReport}
 use Rattle.gossip.specs.declared.report.Ended.TheVariants as ends
 use Rattle.gossip.specs.Spreads.{Spreads, SpreadsNothing}
 use Rattle.thread_plans.specs.Lines.{StartValue, makes, spreads}
+use Rattle.thread_warnings.specs.Runs.{FaultList, StartFaults}
 
 -- Calls that were asked in this order: each was accepted, and has the next receipt; or the node refused it, otherwise
 -- than as out of memory, and it is the next of the refusals, which a registry alone notes
@@ -29,9 +30,6 @@ pub data AreMade (config : Config) (seed : List ℕ) : List AskTold → List Rec
       → AreMade config seed (ask_told ask ∷ asks) receipts ((ask, fault) ∷ refusals)
 
 -- why calls were refused, one after the other
-abbrev pub FaultList : Type 0
-FaultList = List NodeFault
-
 abbrev pub faults_of : List Refusal → FaultList
 faults_of refusals = map (λ (r : Refusal). r.1) refusals
 
@@ -66,10 +64,7 @@ abbrev pub fault_list : Option NodeFault → FaultList
 fault_list None = []
 fault_list (Some fault) = fault ∷ []
 
--- why calls before the workers were refused, each with the place of its line among those of the plan
-abbrev pub StartFaults : Type 0
-StartFaults = List (ℕ × NodeFault)
-
+-- those of a line before the workers, each with the place of the line among those of the plan
 abbrev pub placed : ℕ → FaultList → StartFaults
 placed place why = map (λ (fault : NodeFault). (place, fault)) why
 
@@ -112,7 +107,3 @@ abbrev pub HandsBack : {L : Type 0} → Config → List ℕ → List AskTold →
 HandsBack config seed asks d =
     (faults_told d ≡ faults_of d.refusals)
     × (lack_memory d.faults.items ≡ false → AreOfThread config seed asks d.receipts.items d.refusals)
-
--- why calls of a run were refused: those before the workers, and those of the workers
-abbrev pub RunFaults : Type 0
-RunFaults = StartFaults × FaultList

@@ -5,10 +5,3 @@ pub mod Known
 pub mod Plays
 pub mod Laws
 pub mod Outputs
-pub mod Unfit
-pub mod Unfits
-pub mod Short
-pub mod ShortStarts
-pub mod RefusedCalls
-pub mod RefusedStarts
-pub mod Warnings

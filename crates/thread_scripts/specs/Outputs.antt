@@ -11,9 +11,9 @@ use Rattle.audit.specs.Traces.{Traces, audited}
 use Rattle.audit.specs.VerdictText.{verdict_text}
 use Rattle.streams.specs.Fields.{output_line}
 use Rattle.thread_plans.specs.Plans.{PlanValue, plan_in}
-use Rattle.thread_scripts.specs.Calls.{RunFaults}
+use Rattle.thread_warnings.specs.Runs.{RunFaults}
+use Rattle.thread_warnings.specs.Warnings.{warned_text}
 use Rattle.thread_scripts.specs.Plays.{AreListsOf, AreTracesOf}
-use Rattle.thread_scripts.specs.Warnings.{warned_text}
 
 -- how many blocks there were, how many calls were accepted, and what an audit said
 abbrev pub output_text : ℕ → ℕ → Result AuditYes AuditFault → List ℕ

@@ -15,8 +15,9 @@ use Rattle.audit.specs.Traces.{Traces}
 use Rattle.gossip.specs.Mailboxes.{Place, new_place}
 use Rattle.thread_plans.specs.declared.plan.Rounds.{Rounds}
 use Rattle.thread_plans.specs.Plans.{BlockValue, PlanValue}
+use Rattle.thread_warnings.specs.Runs.{FaultList, RunFaults}
 use Rattle.thread_scripts.specs.Asks.{asks_of_block}
-use Rattle.thread_scripts.specs.Calls.{AreOfStarts, AreOfThread, FaultList, RunFaults, faults_of}
+use Rattle.thread_scripts.specs.Calls.{AreOfStarts, AreOfThread, faults_of}
 use Rattle.thread_scripts.specs.Gossips.{AreOfGossip, gossip_over}
 
 -- a trace is legal for a node of this configuration, and its random draws are the first ones of this seed

@@ -11,15 +11,11 @@ mod nodes;
 mod output;
 mod played;
 mod refused;
-mod refused_starts;
 mod rounds;
 mod run;
-mod short;
-mod short_starts;
 mod starts;
 mod steps;
 mod turns;
-mod unfit;
 mod waits;
 mod warnings;
 
@@ -29,5 +25,6 @@ pub use run::{run_threads, run_threads_warning};
 pub use thread_plans::{
     Block, CallLine, RoundKind, Rounds, Size, Start, StartLine, ThreadPlan, read_plan,
 };
+pub use thread_warnings::read_plan_saying;
 pub use waits::{Await, Waits};
-pub use warnings::{read_plan_saying, warnings_of};
+pub use warnings::warnings_of;

@@ -1,18 +1,12 @@
 //! Calls of workers that were refused.
 
-ghost use Rattle.std.specs.Prelude.{◌≡◌, ◌++◌, count_by, IfOk, OnOk};
-ghost use Rattle.std.specs.List.{find, flat_map};
+ghost use Rattle.std.specs.Prelude.{◌≡◌, ◌++◌, IfOk, OnOk};
+ghost use Rattle.std.specs.List.{flat_map};
 ghost use Rattle.thread_scripts.specs.Calls.{faults_in, faults_told};
-ghost use Rattle.thread_scripts.specs.RefusedCalls.{calls_said, code_said, has_code};
-ghost use Rattle.thread_scripts.specs.RefusedCalls.{refused_said, refused_text, rest_of};
 
 use node_core::NodeFault;
 use node_registry::{Done, Label};
 use std::alloc::{AllocError, Global};
-use streams::{cut, first_word};
-
-/// All codes are below this.
-const CODES_END: u8 = 23;
 
 fn push_faults(faults: &[(u32, NodeFault)], all: &mut Vec<NodeFault>) -> Result<(), AllocError>
     ensures { OnOk result (all.new.items ≡ all.old.items ++ faults_in faults.now) }
@@ -35,89 +29,4 @@ pub(crate) fn faults_of<L: Label>(
         push_faults(&done.faults, &mut all)?;
     }
     Ok(all)
-}
-
-fn has_code(code: u8, fault: NodeFault) -> bool
-    ensures { result ≡ has_code code fault }
-{
-    fault.code() == code
-}
-
-fn first_with(code: u8, refused: &[NodeFault]) -> Option<NodeFault>
-    ensures { result ≡ find (has_code code) refused.now }
-{
-    refused.iter().copied().find(|fault| has_code(code, *fault))
-}
-
-fn number_with(code: u8, refused: &[NodeFault]) -> usize
-    ensures { result ≡ count_by (has_code code) refused.now }
-{
-    refused
-        .iter()
-        .filter(|fault| has_code(code, **fault))
-        .count()
-}
-
-// What stands behind the first word.
-fn rest_of(text: &str) -> &str
-    ensures { result.now ≡ rest_of text.now }
-{
-    match cut(text) {
-        Some((_, rest)) => rest,
-        None => "",
-    }
-}
-
-// Says of so many calls with which code and name they were refused, by the text of a fault.
-fn say_calls(alloc: Global, text: &str, calls: usize, said: &mut Vec<u8>) -> Result<(), AllocError>
-    ensures { OnOk result (said.new.items ≡ said.old.items ++ calls_said text.now calls) }
-{
-    let code = first_word(text);
-    let name = first_word(rest_of(text));
-    let text = format!(in alloc; "calls of workers refused as {code} {name}: {calls}\n")?;
-    said.extend_from_slice(text.as_bytes())
-}
-
-// The same by the fault of one of them, if there is one.
-fn say_fault(
-    alloc: Global,
-    fault: Option<NodeFault>,
-    calls: usize,
-    said: &mut Vec<u8>,
-) -> Result<(), AllocError>
-    ensures { OnOk result (said.new.items ≡ said.old.items ++ refused_said fault calls) }
-{
-    let Some(fault) = fault else {
-        return Ok(());
-    };
-    let text = format!(in alloc; "{fault}")?;
-    say_calls(alloc, &text, calls, said)
-}
-
-// Says how many calls were refused with a code, if one was.
-fn say_code(
-    alloc: Global,
-    refused: &[NodeFault],
-    code: u8,
-    said: &mut Vec<u8>,
-) -> Result<(), AllocError>
-    ensures { OnOk result (said.new.items ≡ said.old.items ++ code_said refused.now code) }
-{
-    let first = first_with(code, refused);
-    say_fault(alloc, first, number_with(code, refused), said)
-}
-
-/// Says how many calls of workers were refused with each code, in the order of the codes, by the faults
-/// of all of them.
-pub(crate) fn say_refused(
-    alloc: Global,
-    refused: &[NodeFault],
-    said: &mut Vec<u8>,
-) -> Result<(), AllocError>
-    ensures { OnOk result (said.new.items ≡ said.old.items ++ refused_text refused.now) }
-{
-    for code in 0..CODES_END {
-        say_code(alloc, refused, code, said)?;
-    }
-    Ok(())
 }

@@ -13,13 +13,14 @@ ghost use Rattle.thread_plans.specs.Plans.{plan_in};
 
 use crate::output::{judged_output_of, output_of};
 use crate::played::play;
-use crate::warnings::{read_plan_saying, warnings_of};
+use crate::warnings::warnings_of;
 use std::alloc::Global;
 use std::io::{Read, Write};
 use std::sync::Wait;
 use std::thread::Threads;
 use streams::{MOST_BYTES, ScriptFault, Watched, read_script, write_text};
 use thread_plans::read_plan;
+use thread_warnings::read_plan_saying;
 
 // What a script comes to, or its first bad line.
 fn played_text<R: Threads + Wait + Sync>(

@@ -1,6 +1,6 @@
 use Rattle.std.proofs.Common.{◌≡◌}
 use Rattle.streams.specs.Streams.{Writes}
-use Rattle.thread_scripts.specs.Calls.{RunFaults}
+use Rattle.thread_warnings.specs.Runs.{RunFaults}
 use Rattle.thread_checks.specs.Checked.{IsChecked}
 use Rattle.thread_commands.proofs.CheckedRuns.{checked_on_ok}
 use Rattle.thread_commands.proofs.checking.check_script.Goals as goal

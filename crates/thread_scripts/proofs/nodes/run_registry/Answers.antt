@@ -1,6 +1,6 @@
 use Rattle.std.proofs.Common.{option_map, subst, sym}
 use Rattle.thread_plans.specs.Plans.{plan_value}
-use Rattle.thread_scripts.specs.Calls.{RunFaults}
+use Rattle.thread_warnings.specs.Runs.{RunFaults}
 use Rattle.thread_scripts.specs.Plays.{AreOfNode}
 use Rattle.thread_scripts.proofs.nodes.run_registry.Goals as goal
 

@@ -2,7 +2,7 @@ use Rattle.std.proofs.Common.{rules, arith, ◌≡◌, ◌+◌, ◌∷◌, [], �
 use Rattle.std.specs.Vec.Iter.{into_iter_items}
 use Rattle.std.specs.declared.alloc.AllocError.{AllocError}
 use Rattle.thread_plans.specs.Plans.{plan_value}
-use Rattle.thread_scripts.specs.Calls.{RunFaults}
+use Rattle.thread_warnings.specs.Runs.{RunFaults}
 use Rattle.thread_scripts.specs.Plays.{AllFrom, AreListsBelow, AreOfNode, IsTraceOf, config_at, gossip_at}
 use Rattle.thread_scripts.specs.declared.nodes.NodePlayed.{NodePlayed}
 use Rattle.thread_scripts.proofs.NodeLists.{below_more, below_none}

@@ -1,0 +1,6 @@
+pub mod Unfits
+pub mod UnfitCalls
+pub mod Shorts
+pub mod ShortStarts
+pub mod FaultCodes
+pub mod RefusedStarts

@@ -1,0 +1,9 @@
+pub mod Runs
+pub mod Unfit
+pub mod Unfits
+pub mod Short
+pub mod ShortStarts
+pub mod RefusedCalls
+pub mod RefusedStarts
+pub mod Warnings
+pub mod Laws

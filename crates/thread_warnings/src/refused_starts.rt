@@ -1,0 +1,110 @@
+//! Lines whose calls a node refused before its workers.
+
+ghost use Rattle.std.specs.Prelude.{◌≡◌, ◌++◌, slice_set, IfOk, OnOk, Some};
+ghost use Rattle.thread_warnings.specs.RefusedStarts.{fault_at, faults_by_place, refused_from, refused_starts};
+ghost use Rattle.thread_warnings.specs.RefusedStarts.{refused_sum, start_refused};
+
+use crate::unfit::say_unfit;
+use node_calls::NodeFault;
+use std::alloc::{AllocError, Global};
+
+/// The most lines that are named.
+const MOST_NAMED: usize = 20;
+
+fn put_fault(faults: &mut Vec<Option<NodeFault>>, place: usize, fault: NodeFault)
+    ensures { faults.new.items ≡ slice_set faults.old.items place (Some fault) }
+{
+    if place >= faults.len() {
+        return;
+    }
+    faults[place] = Some(fault);
+}
+
+// Why the calls of so many lines were refused, by the places of the lines.
+fn faults_by_place(
+    alloc: Global,
+    lines: usize,
+    refused: &[(usize, NodeFault)],
+) -> Result<Vec<Option<NodeFault>>, AllocError>
+    ensures { IfOk result (λ faults. faults.items ≡ faults_by_place lines refused.now) }
+{
+    let mut faults = vec![in alloc; None; lines]?;
+    for numbered in refused {
+        put_fault(&mut faults, numbered.0, numbered.1);
+    }
+    Ok(faults)
+}
+
+fn fault_at(faults: &[Option<NodeFault>], place: usize) -> Option<NodeFault>
+    ensures { result ≡ fault_at faults.now place }
+{
+    match faults.get(place) {
+        Some(fault) => *fault,
+        None => None,
+    }
+}
+
+// Says why the call of a line was refused, if it was and not so many lines are named already.
+fn say_start(
+    alloc: Global,
+    named: usize,
+    number: u32,
+    fault: Option<NodeFault>,
+    said: &mut Vec<u8>,
+) -> Result<(), AllocError>
+    ensures { OnOk result (said.new.items ≡ said.old.items ++ start_refused named number fault) }
+{
+    if named < MOST_NAMED {
+        say_unfit(alloc, number, fault, said)
+    } else {
+        Ok(())
+    }
+}
+
+// Says how many lines were refused, where not all were named.
+fn say_sum(alloc: Global, named: usize, said: &mut Vec<u8>) -> Result<(), AllocError>
+    ensures { OnOk result (said.new.items ≡ said.old.items ++ refused_sum named) }
+{
+    if named <= MOST_NAMED {
+        return Ok(());
+    }
+    let text = format!(in alloc; "start lines that are refused: {named}\n")?;
+    said.extend_from_slice(text.as_bytes())
+}
+
+// Says by the places of lines with these numbers why their calls were refused.
+fn say_from(
+    alloc: Global,
+    faults: &[Option<NodeFault>],
+    numbers: &[u32],
+    said: &mut Vec<u8>,
+) -> Result<(), AllocError>
+    ensures { OnOk result (said.new.items
+        ≡ said.old.items ++ refused_from faults.now 0 0 numbers.now) }
+{
+    let mut place = 0usize;
+    let mut named = 0usize;
+    for number in numbers {
+        let fault = fault_at(faults, place);
+        say_start(alloc, named, *number, fault, said)?;
+        named += usize::from(fault.is_some());
+        place += 1;
+    }
+    say_sum(alloc, named, said)
+}
+
+/// Says of each `start` line whose call was refused why, in the order of the lines, which have these
+/// numbers: of 20 lines at most, and then how many they are.
+#[tactic(auto, unfolding(crate::specs::RefusedStarts::refused_starts))]
+pub(crate) fn say_refused_starts(
+    alloc: Global,
+    numbers: &[u32],
+    refused: &[(usize, NodeFault)],
+    said: &mut Vec<u8>,
+) -> Result<(), AllocError>
+    ensures { OnOk result (said.new.items
+        ≡ said.old.items ++ refused_starts numbers.now refused.now) }
+{
+    let faults = faults_by_place(alloc, numbers.len(), refused)?;
+    say_from(alloc, &faults, numbers, said)
+}
