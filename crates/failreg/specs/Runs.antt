@@ -8,6 +8,7 @@ use Rattle.commands.specs.Drawn.{DrawsSome}
 use Rattle.commands.specs.Explaining.{asked_text}
 use Rattle.refusal_texts.specs.declared.table.TheConstants.{TABLE}
 use Rattle.streams.specs.Streams.{Writes}
+use Rattle.streams.specs.Watched.{has_unflushed}
 use Rattle.streams.specs.declared.watched.Watched.{Watched}
 
 -- it may end with this status
@@ -20,15 +21,16 @@ MayEnd (asked.Picture options) status = (status ≡ 0) ⊎ (status ≡ 1)
 MayEnd (asked.Serve options part) status = (status ≡ 0) ⊎ (status ≡ 1) ⊎ (status ≡ 4)
 MayEnd (asked.Explain text) status = (status ≡ 0) ⊎ (status ≡ 1) ⊎ (status ≡ 2)
 
--- what it has done where it ends with 0; what a script prints is a fact of standard input, whose bytes no contract tells
+-- what it has done where it ends with 0: what a script prints, which is a fact of standard input, whose bytes no contract
+-- tells, was flushed
 abbrev pub IsDone : {O : Type 0} → Invocation → (O → Option (List ℕ)) → Watched O → Watched O → Type 0
 IsDone (asked.Parse text) contents old new = IsOk (reading text.now)
 IsDone (asked.Audit options) contents old new = SaysOfAFile true contents old new
 IsDone (asked.Picture options) contents old new = DrawsSome options.text contents old new
 IsDone (asked.Explain text) contents old new =
     Writes contents old new (asked_text TABLE.now (option_map string_bytes text))
-IsDone (asked.Sim options) contents old new = ⊤
-IsDone (asked.Threads options) contents old new = ⊤
+IsDone (asked.Sim options) contents old new = has_unflushed new ≡ false
+IsDone (asked.Threads options) contents old new = has_unflushed new ≡ false
 IsDone (asked.Serve options part) contents old new = ⊤
 
 -- its answers are to be written as objects of JSON

@@ -1,7 +1,7 @@
 //! Connections beside each other, each in a task of its own.
 
-ghost use Rattle.std.specs.Prelude.{◌≡◌, ◌<◌, ◌≤◌, ◌↔◌, IsTrue, IfSome};
-ghost use Rattle.futures.specs.Poll.{OnPending};
+ghost use Rattle.std.specs.Prelude.{◌≡◌, ◌<◌, ◌≤◌, ◌↔◌, IsTrue, IfSome, None};
+ghost use Rattle.futures.specs.Poll.{IfReady, OnPending};
 ghost use Rattle.futures.specs.Task.{IsArmed, Keeps};
 ghost use Rattle.tokio.specs.Timers.{IsDelayedBy, sleep_deadline, timeout_delay, timeout_future};
 ghost use Rattle.tokio.specs.Locks.{CanAcquire};
@@ -179,6 +179,7 @@ fn let_in(came: io::Result<(TcpStream, SocketAddr)>, clients: &mut Clients) -> C
 
 // Waits for a rest to end, if there is one.
 fn poll_rest(rest: &mut Option<Sleep>, cx: &mut Context<'_>) -> Poll<()>
+    ensures over { IfReady result (λ _. rest.new ≡ None) }
     ensures armed { OnPending result (IsArmed cx.new) }
     ensures kept { Keeps cx.old cx.new }
 {

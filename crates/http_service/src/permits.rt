@@ -1,6 +1,6 @@
 //! Permits of which there are only so many at once.
 
-ghost use Rattle.std.specs.Prelude.{◌≡◌, true, max, IfOk, IfSome, None};
+ghost use Rattle.std.specs.Prelude.{◌≡◌, true, is_some, max, IfOk, IfSome, None, Some};
 ghost use Rattle.std.specs.Arc.{arc_value};
 ghost use Rattle.futures.specs.Poll.{IfReady, OnPending};
 ghost use Rattle.futures.specs.Task.{IsArmed, Keeps};
@@ -59,6 +59,8 @@ impl Permits {
         requires { IfSome self.old.waiting CanAcquire }
         ensures goes { IfReady result
             (λ is_there. is_there ≡ true → IfSome self.new.waiting CanAcquire) }
+        ensures there { IfReady result (λ is_there. is_there ≡ is_some place.new) }
+        ensures stays { IfSome place.old (λ permit. place.new ≡ Some permit) }
         ensures again { OnPending result (IfSome self.new.waiting CanAcquire) }
         ensures armed { OnPending result (IsArmed cx.new) }
         ensures kept { Keeps cx.old cx.new }

@@ -1,6 +1,6 @@
 //! A wire of a node whose part is kept: a message leaves once its line is written.
 
-ghost use Rattle.std.specs.Prelude.{◌≡◌, is_ok, Err, IfOk, OnErr, OnOk};
+ghost use Rattle.std.specs.Prelude.{◌≡◌, [], is_ok, Err, IfOk, OnErr, OnOk};
 ghost use Rattle.gossip.specs.Traffic.{sends};
 
 use crate::gated_wire::GatedWire;
@@ -52,7 +52,8 @@ impl<'a, L: Label, W> RecordingWire<'a, L, W> {
         rt: &R,
         alloc: Global,
     ) -> Result<AllWritten<'static, L>, NotRecorded>
-        ensures { (is_ok result ≡ self.new.goes_on) × (self.new.wire ≡ self.old.wire) }
+        ensures gone_on { (is_ok result ≡ self.new.goes_on) × (self.new.wire ≡ self.old.wire) }
+        ensures handed { IfOk result (λ written. written.message.now ≡ []) }
     {
         let kept = self.recorder.keep(rt, alloc, self.registry);
         self.goes_on = kept.is_ok();

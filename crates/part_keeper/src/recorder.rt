@@ -1,6 +1,6 @@
 //! A recording behind a lock.
 
-ghost use Rattle.std.specs.Prelude.{◌≡◌, IfOk, IfErr};
+ghost use Rattle.std.specs.Prelude.{◌≡◌, [], IfOk, IfErr};
 ghost use Rattle.node_registry.specs.Receipts.{IsAnswered};
 ghost use Rattle.part_keeper.specs.Kept.{IsUnanswered};
 
@@ -57,7 +57,9 @@ impl<L: Label> Recorder<L> {
         rt: &R,
         alloc: Global,
         registry: &Registry<L>,
-    ) -> Result<AllWritten<'static, L>, NotRecorded> {
+    ) -> Result<AllWritten<'static, L>, NotRecorded>
+        ensures { IfOk result (λ written. written.message.now ≡ []) }
+    {
         let mut recording = self.lock.lock(rt);
         recording.keep(rt, alloc, registry)
     }

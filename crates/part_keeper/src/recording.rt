@@ -1,7 +1,8 @@
 //! A node's calls, each of which is written before its caller is told.
 
 ghost use Rattle.std.specs.Prelude.{◌≡◌, ◌≢◌, ◌↔◌, ◌-◌, ◌+◌, true, false, not, IsTrue, IfOk, IfErr, OnOk, Err};
-ghost use Rattle.std.specs.Prelude.{◌⊎◌, OnErr, IsErr, Some, option_map, slice_get};
+ghost use Rattle.std.specs.Prelude.{◌⊎◌, [], OnErr, IsErr, Some, option_map, slice_get};
+ghost use Rattle.streams.specs.Watched.{has_unflushed};
 ghost use Rattle.node_calls.specs.Told.{told};
 ghost use Rattle.packed_trace.specs.Packed.{seen_told};
 ghost use Rattle.node_registry.specs.Batches.{IsBatch};
@@ -99,6 +100,7 @@ impl<L: Label, W: Write> Recording<L, W> {
         ensures ok { IfOk result (λ reply. IsRecorded W.contents (out_of self.old)
             (out_of self.new) receipt.entry.ask reply) }
         ensures reply { IfOk result (λ reply. reply ≡ receipt.entry.reply) }
+        ensures flushed { OnOk result (has_unflushed self.new.lines.out ≡ false) }
         ensures seat { self.new.seat ≡ self.old.seat }
     {
         let is_there = has_call(piece, &receipt);
@@ -124,6 +126,7 @@ impl<L: Label, W: Write> Recording<L, W> {
         ensures answered { IfOk result (IsAnswered L.config L.seed ask) }
         ensures recorded { IfOk result
             (IsRecorded W.contents (out_of self.old) (out_of self.new) ask) }
+        ensures flushed { OnOk result (has_unflushed self.new.lines.out ≡ false) }
         ensures counted { OnOk result (self.new.seat ≡ self.old.seat + 1) }
         ensures unanswered { IfErr result (IsUnanswered L.config L.seed ask) }
         ensures unmade { IfErr result (λ fault. fault ≢ CallFault.NotRecorded
@@ -159,6 +162,7 @@ impl<L: Label, W: Write> Recording<L, W> {
         ensures kept { OnOk result ((c : Cell) × (piece : Piece)
             × IsCellSince L.config L.seed L.keeps L.parts self.new.seat c × IsPieceOf c piece
             × Records W.contents (out_of self.old) (out_of self.new) piece.trace.calls) }
+        ensures flushed { OnOk result (has_unflushed self.new.lines.out ≡ false) }
         ensures only { IfErr result (λ fault.
             (fault ≡ CallFault.NotRecorded) ⊎ (fault ≡ CallFault.RecordingFailed)) }
         ensures unmade { IfErr result (λ fault. fault ≢ CallFault.NotRecorded
@@ -186,6 +190,8 @@ impl<L: Label, W: Write> Recording<L, W> {
         ensures kept { OnOk result ((c : Cell) × (piece : Piece)
             × IsCellSince L.config L.seed L.keeps L.parts self.old.seat c × IsPieceOf c piece
             × Records W.contents (out_of self.old) (out_of self.new) piece.trace.calls) }
+        ensures flushed { OnOk result (has_unflushed self.new.lines.out ≡ false) }
+        ensures handed { IfOk result (λ written. written.message.now ≡ []) }
         ensures failed { IsErr result ↔ (self.new.lines.has_failed ≡ true) }
         ensures seat { self.new.seat ≡ self.old.seat }
     {
@@ -203,6 +209,7 @@ impl<L: Label, W: Write> Recording<L, W> {
         ensures kept { OnOk result ((c : Cell) × (piece : Piece)
             × IsCellSince L.config L.seed L.keeps L.parts self.old.seat c × IsPieceOf c piece
             × Records W.contents (out_of self.old) (out_of self.new) piece.trace.calls) }
+        ensures flushed { OnOk result (has_unflushed self.new.lines.out ≡ false) }
         ensures handed { IfOk result (λ written. written.message.now ≡ message.now) }
         ensures failed { IsErr result ↔ (self.new.lines.has_failed ≡ true) }
         ensures seat { self.new.seat ≡ self.old.seat }
