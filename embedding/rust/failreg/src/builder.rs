@@ -257,7 +257,7 @@ impl Builder {
 
     /// Whether lines of the part may share a write where they are those of passes that took no right:
     /// the point wasn't set, or came to no term, or to one that has no count. They are written before
-    /// any other line, before a message or the reply to a request leaves, and after 100 ms at most.
+    /// any other line, before a message or the reply to a request leaves, and every 50 ms.
     /// What is lost of them with the process no other node and no operator was told of: its hits are
     /// fewer when it goes on, and their draws are drawn again. Else each line is written at once.
     pub fn buffered(self, is_buffered: bool) -> Builder {
