@@ -6,8 +6,8 @@ use Rattle.sharing.specs.Memory.{seen}
 use Rattle.sharing.specs.Remembered.{recalled_at}
 use Rattle.sharing.proofs.Lines.{has_passed_test, is_itself, is_quiet}
 use Rattle.sharing.proofs.Walks.{filter_of_next}
-use Rattle.sharing.proofs.point.passers.Goals as goal
-use Rattle.sharing.proofs.point.passers.Goals.{then-other-node+then-seen-number_at+in_ok-push, else-other-node, else-other-node-via-then-other-node+else-seen-number_at, else-other-node-via-else-other-node}
+use Rattle.sharing.proofs.point.find_passers.Goals as goal
+use Rattle.sharing.proofs.point.find_passers.Goals.{then-other-node+then-seen-number_at+in_ok-push, else-other-node, else-other-node-via-then-other-node+else-seen-number_at, else-other-node-via-else-other-node}
 
 pub loop-other-preserved : goal.loop-other-preserved
 loop-other-preserved c =
