@@ -40,12 +40,11 @@ pub(crate) fn spare(rights: i128, still: u8) -> u64
 fn are_some(rights: &[i128]) -> bool
     ensures { IsTrue result → All (λ right. pos 0 <ℤ right) rights.now }
 {
+    let mut are_some = true;
     for place in 0..rights.len() {
-        if rights[place] <= 0 {
-            return false;
-        }
+        are_some &= rights[place] > 0;
     }
-    true
+    are_some
 }
 
 /// Writes which of these nodes have no right. Mostly each node has some, and then nobody is looked for.
