@@ -1,7 +1,13 @@
 -- Room for what is read of one point at a time, and of one of its terms.
-use Rattle.std.specs.Prelude.{◌≡◌, ℕ, ◌<◌, ◌≤◌, vec_len}
-use Rattle.std.specs.List.{All}
+use Rattle.std.specs.Prelude.{◌≡◌, ℕ, ◌<◌, ◌≤◌, List, length, map, vec_len, ℤ}
+use Rattle.std.specs.List.{All, range_with_len}
+use Rattle.replica_state.specs.Points.{Held, rights_of_key}
 use Rattle.sharing.specs.declared.room.Room.{Room}
+
+-- these are the rights of the first nodes to a term
+abbrev pub AreRights : Held → ℕ → List ℤ → Type 0
+AreRights held term rights =
+    rights ≡ map (rights_of_key held.key held.number term) (range_with_len 0 (length rights))
 
 -- there is a place for each of so many nodes
 pub record HasPlaces (nodes : ℕ) (room : Room) : Type 0 where

@@ -6,8 +6,9 @@ ghost use Rattle.std.specs.Int.{int_gap};
 ghost use Rattle.std.specs.List.{All, filter, position_or_len};
 ghost use Rattle.std.specs.List.Sorted.{IsNonDecreasingBy};
 ghost use Rattle.replica_state.specs.Cells.{held_at};
+ghost use Rattle.replica_state.specs.Points.{rights_of_key};
 ghost use Rattle.replica_state.specs.States.{State};
-ghost use Rattle.sharing.specs.Rooms.{IsAsLarge, IsRoomForOthers};
+ghost use Rattle.sharing.specs.Rooms.{AreRights, IsAsLarge, IsRoomForOthers};
 ghost use Rattle.sharing.specs.Shares.{line_of, placed, share_of, shares_in, spare_of};
 ghost use Rattle.sharing.specs.Shares.{term_shifts, waiting};
 
@@ -34,6 +35,46 @@ pub(crate) fn spare(rights: i128, still: u8) -> u64
         return 0;
     }
     (rights - kept).min(i128::from(u64::MAX)) as u64
+}
+
+/// The rights of a node, 0 where there are none of it.
+fn rights_at(rights: &[i128], node: u8) -> i128
+    ensures { result ≡ slice_index_or rights.now node (pos 0) }
+{
+    rights.get(usize::from(node)).copied().unwrap_or(0)
+}
+
+/// The rights of a node, by those of the first nodes where it is one of these.
+fn rights_among<S: Stored>(stored: &S, term: u8, node: u8, rights: &[i128]) -> i128
+    requires { AreRights (S.held stored.now) term rights.now }
+    ensures { result
+        ≡ rights_of_key (S.held stored.now).key (S.held stored.now).number term node }
+{
+    if usize::from(node) < rights.len() {
+        rights_at(rights, node)
+    } else {
+        stored.rights(term, node)
+    }
+}
+
+/// What a node can spare of a term. Where it can't spare any, its own rights are all that is read,
+/// unless it could of the term before: then it mostly can of this one too, and its rights are read with
+/// those of all.
+fn read_spare<S: Stored>(stored: &S, giver: Giver, term: u8, room: &mut Room) -> u64
+    requires { vec_len room.old.rights ≤ 256 }
+    ensures spare { result ≡ spare_of (rights_of_key (S.held stored.now).key
+        (S.held stored.now).number term giver.node) giver.still }
+    ensures rights { 0 < result → AreRights (S.held stored.now) term room.new.rights.items }
+    ensures kept { IsAsLarge room.old room.new }
+{
+    if !room.has_spare && spare(stored.rights(term, giver.node), giver.still) == 0 {
+        return 0;
+    }
+    room.read_rights(stored, term);
+    let rights = rights_among(stored, term, giver.node, &room.rights);
+    let spare = spare(rights, giver.still);
+    room.has_spare = spare > 0;
+    spare
 }
 
 /// Whether each of these rights is one at least.
@@ -123,16 +164,17 @@ fn line_up_waiting<S: Stored>(stored: &S, term: u8, room: &mut Room) -> Result<(
     put_in_line(&room.executions, &room.waiting, &mut room.line)
 }
 
-/// Writes those of the others that have no right to a term, in their line.
+/// Writes those of the others that have no right to a term, by the rights that were read, in their
+/// line.
 fn line_up<S: Stored>(stored: &S, term: u8, room: &mut Room) -> Result<(), AllocError>
-    requires { IsRoomForOthers room.old }
+    requires room { IsRoomForOthers room.old }
+    requires rights { AreRights (S.held stored.now) term room.old.rights.items }
     ensures line { OnOk result ((v : State) (name : List ℕ)
         → S.held stored.now ≡ held_at v name
         → room.new.line.items
         ≡ line_of (v.execs name term) (waiting v name term room.old.others.items)) }
     ensures kept { IsAsLarge room.old room.new }
 {
-    room.read_rights(stored, term);
     find_waiting(&room.rights, &room.others, &mut room.waiting)?;
     line_up_waiting(stored, term, room)
 }
@@ -208,7 +250,7 @@ pub(crate) fn push_term<S: Stored>(
         ++ term_shifts v name.now giver.node giver.still room.old.others.items term) }
     ensures kept { IsAsLarge room.old room.new }
 {
-    let spare = spare(stored.rights(term, giver.node), giver.still);
+    let spare = read_spare(stored, giver, term, room);
     if spare == 0 {
         return Ok(());
     }

@@ -4,16 +4,16 @@
 ghost use Rattle.std.specs.Prelude.{◌≡◌, ◌≤◌, map, vec_len, IfOk};
 ghost use Rattle.std.specs.List.{range_with_len};
 ghost use Rattle.operations.specs.declared.counted.Counted.TheVariants.{Execs};
-ghost use Rattle.replica_state.specs.Points.{rights_of_key};
-ghost use Rattle.sharing.specs.Rooms.{HasPlaces, IsAsLarge};
+ghost use Rattle.sharing.specs.Rooms.{AreRights, HasPlaces, IsAsLarge};
 
 use replica_state::Stored;
 use std::alloc::{AllocError, Global};
 
 /// Who passed a point; and of a term the rights of each node, its executions, who waits, and in which
-/// line.
+/// line. `has_spare` says that the node could spare some rights to the term before.
 #[derive(Debug, Drop)]
 pub(crate) struct Room {
+    pub(crate) has_spare: bool,
     pub(crate) others: Vec<u8>,
     pub(crate) rights: Vec<i128>,
     pub(crate) executions: Vec<u64>,
@@ -27,6 +27,7 @@ impl Room {
         ensures { IfOk result (HasPlaces nodes) }
     {
         Ok(Room {
+            has_spare: false,
             others: Vec::new(alloc),
             rights: vec![in alloc; 0; usize::from(nodes)]?,
             executions: vec![in alloc; 0; usize::from(nodes)]?,
@@ -38,9 +39,7 @@ impl Room {
     /// Reads the rights of each node to a term.
     pub(crate) fn read_rights<S: Stored>(&mut self, stored: &S, term: u8)
         requires { vec_len self.old.rights ≤ 256 }
-        ensures rights { self.new.rights.items ≡ map
-            (rights_of_key (S.held stored.now).key (S.held stored.now).number term)
-            (range_with_len 0 (vec_len self.old.rights)) }
+        ensures rights { AreRights (S.held stored.now) term self.new.rights.items }
         ensures kept { IsAsLarge self.old self.new }
     {
         stored.rights_of_all(term, &mut self.rights);
