@@ -13,7 +13,7 @@ ghost use Rattle.sharing.specs.Rooms.{HasPlaces, IsAsLarge, IsRoomForOthers};
 ghost use Rattle.sharing.specs.Shares.{point_shifts, recalled_after, term_shifts};
 
 use crate::line::{Giver, push_term};
-use crate::remembered::{PATIENCE, Remembered, number_at, seen, still_before};
+use crate::remembered::{PATIENCE, Remembered, hits_seen, number_at, seen, still_before};
 use crate::room::Room;
 use crate::shift::Shift;
 use actions::{MAX_TERMS, Name};
@@ -43,8 +43,9 @@ fn find_passers(
         (range_with_len 0 nodes)) }
 {
     others.clear();
+    let before = hits_seen(remembered);
     for other in 0..nodes {
-        if other != node && seen(remembered, other) < number_at(hits, other) {
+        if other != node && number_at(before, other) < number_at(hits, other) {
             others.push(other)?;
         }
     }
