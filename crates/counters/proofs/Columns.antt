@@ -1,5 +1,5 @@
 -- What each entry of a map adds to the sums by place.
-use Rattle.std.specs.Prelude.{◌≡◌, ◌<◌, ◌≤◌, ◌+◌, ◌*◌, ◌^◌, ◌==◌, ℕ, cond, List, [], ◌∷◌, length, get_or, slice_set, map, ℤ, pos, ◌+ℤ◌, ◌-ℤ◌, ◌≤ℤ◌}
+use Rattle.std.specs.Prelude.{◌≡◌, ◌<◌, ◌≤◌, ◌+◌, ◌*◌, ◌^◌, ◌==◌, ℕ, cond, List, [], ◌∷◌, length, get_or, slice_index, slice_set, map, ℤ, pos, ◌+ℤ◌, ◌-ℤ◌, ◌≤ℤ◌}
 use Rattle.std.specs.List.{range_with_len}
 use Rattle.std.proofs.Common.{ap, arith, refl, subst, sym, ◌∙◌, ⊎_elim}
 use Rattle.std.proofs.Math.ListN.{length-set}
@@ -28,6 +28,42 @@ pub went-entry : (k : ℕ) (v : Cells) (rest : Rows) → AreApart ((k, v) ∷ re
 unfolding row_cell
 went-entry k v rest apart i = counts-entry [] (λ q (held : Cells). sum_others node_numbers q (cell held))
     (λ q. total_of_others-empty q) k v rest apart i
+
+-- what is less than 0 by the numbers before a place, where 0 is left from there on
+pub record NegatedBelow (numbers : List ℕ) (n : ℕ) (sums : List ℤ) (place : ℕ) : Type 0 where
+  pub len : length sums ≡ n
+  pub read : (i : ℕ) → i < place → get_or sums i (pos 0) ≡ pos 0 -ℤ pos (slice_index numbers i)
+  pub small : (i : ℕ) → i < place → (pos 0 ≤ℤ (get_or sums i (pos 0) +ℤ pos (2 ^ 99))) × (get_or sums i (pos 0) ≤ℤ pos (2 ^ 99))
+  pub left : (i : ℕ) → place ≤ i → i < length sums → get_or sums i (pos 0) ≡ pos 0
+
+pub place-negated : (numbers : List ℕ) (n : ℕ) (sums : List ℤ) (place : ℕ) (x : ℤ) → place < length sums →
+    x ≡ pos 0 -ℤ pos (slice_index numbers place) → slice_index numbers place < 2 ^ 64 →
+    NegatedBelow numbers n sums place → NegatedBelow numbers n (slice_set sums place x) (place + 1)
+place-negated numbers n sums place x inside is fits h =
+    let here : get_or (slice_set sums place x) place (pos 0) ≡ x = get_or-set_same sums place x (pos 0) inside in
+    record {
+      len = length-set sums place x ∙ h.len;
+      read = λ i low. ⊎_elim
+          (λ same. subst (λ j. get_or (slice_set sums place x) j (pos 0) ≡ pos 0 -ℤ pos (slice_index numbers j)) (sym same)
+          (here ∙ is))
+          (λ ne. get_or-set_other sums place i x (pos 0) ne ∙ h.read i (omega (arith, ne, low)))
+          (cases_eq i place);
+      small = λ i low. ⊎_elim
+          (λ same.
+          let at : get_or (slice_set sums place x) i (pos 0) ≡ x =
+          ap (λ j. get_or (slice_set sums place x) j (pos 0)) same ∙ here in
+          (omega (arith, ints), omega (arith, ints)))
+          (λ ne.
+          let at : get_or (slice_set sums place x) i (pos 0) ≡ get_or sums i (pos 0) =
+          get_or-set_other sums place i x (pos 0) ne in
+          let before = h.small i (omega (arith, ne, low)) in
+          let from = before.0 in
+          let upto = before.1 in
+          (omega (arith, ints), omega (arith, ints)))
+          (cases_eq i place);
+      left = λ i high low. get_or-set_other sums place i x (pos 0) (λ same. omega (arith, same, high))
+          ∙ h.left i (omega arith) (omega (arith, low, length-set sums place x));
+    }
 
 -- what was added at one place more
 pub record AddedBelow (row : ℕ → ℕ) (old new : List ℤ) (place : ℕ) : Type 0 where
@@ -88,6 +124,10 @@ added-fits was x v is small low high = omega (arith, ints)
 pub added-is : (was x : ℤ) (v : ℕ) → x ≡ pos v → v < 2 ^ 64 → pos 0 ≤ℤ (was +ℤ pos (2 ^ 101)) → was ≤ℤ pos (2 ^ 101) →
     to_z w128 (of_z w128 (to_z w128 (of_z w128 was) +ℤ to_z w128 (of_z w128 x))) ≡ was +ℤ pos v
 added-is was x v is small low high = omega (arith, ints)
+
+pub taken-from-none : (was x : ℤ) (v : ℕ) → was ≡ pos 0 → x ≡ pos v → v < 2 ^ 64 →
+    to_z w128 (of_z w128 (to_z w128 (of_z w128 was) -ℤ to_z w128 (of_z w128 x))) ≡ pos 0 -ℤ pos v
+taken-from-none was x v none is small = omega (arith, ints)
 
 pub others-taken : (was : ℤ) (n others : ℕ) → n ≡ others → n ≤ 256 * 2 ^ 64 → pos 0 ≤ℤ (was +ℤ pos (2 ^ 101)) →
     was ≤ℤ pos (2 ^ 101) →

@@ -55,12 +55,22 @@ pub(crate) fn total(cells: &Cells) -> u128
     sum
 }
 
+// Of all numbers together those of the nodes other than this one.
+fn others_of(total: u128, cells: &Cells, node: u8) -> u128
+    requires all { total ≡ sum_below node_numbers (cell cells.now) }
+    requires small { total ≤ 256 * 2 ^ 64 }
+    ensures value { result ≡ sum_others node_numbers node (cell cells.now) }
+    ensures small { result ≤ 256 * 2 ^ 64 }
+{
+    total - u128::from(number_of(cells, node))
+}
+
 /// The numbers of the nodes other than this one, together.
 pub(crate) fn total_of_others(cells: &Cells, node: u8) -> u128
     ensures value { result ≡ sum_others node_numbers node (cell cells.now) }
     ensures small { result ≤ 256 * 2 ^ 64 }
 {
-    total(cells) - u128::from(number_of(cells, node))
+    others_of(total(cells), cells, node)
 }
 
 /// What a node's row has at the other nodes, together.
@@ -119,20 +129,30 @@ pub(crate) fn write_negated(cells: &Cells, sums: &mut [i128])
     let numbers = cells.as_slice();
     sums.fill(0);
     for place in 0..sums.len().min(numbers.len()) {
-        sums[place] = -i128::from(number_at(numbers, place));
+        sums[place] -= i128::from(number_at(numbers, place));
     }
 }
 
-// Adds each node's number to the sum at its place.
-fn add_numbers(cells: &Cells, sums: &mut [i128])
+// Adds each node's number to the sum at its place, and answers all numbers together.
+fn add_numbers(cells: &Cells, sums: &mut [i128]) -> u128
     requires { AreWithin (2 ^ 100) sums.old }
     ensures sums { AddsEach (λ place. pos (cell cells.now place)) sums.old sums.new }
     ensures small { AreWithin (2 ^ 101) sums.new }
+    ensures total { result ≡ sum_below node_numbers (cell cells.now) }
+    ensures few { result ≤ 256 * 2 ^ 64 }
 {
     let numbers = cells.as_slice();
-    for place in 0..sums.len().min(numbers.len()) {
-        sums[place] += i128::from(number_at(numbers, place));
+    let places = sums.len().min(numbers.len());
+    let mut total = 0u128;
+    for place in 0..places {
+        let number = number_at(numbers, place);
+        sums[place] += i128::from(number);
+        total += u128::from(number);
     }
+    for place in places..numbers.len() {
+        total += u128::from(number_at(numbers, place));
+    }
+    total
 }
 
 // Adds what a node's row has at each node to the sum at its place, and takes what it has at others
@@ -143,10 +163,10 @@ fn add_row(row: &Cells, node: u8, sums: &mut [i128])
         -ℤ pos (if place == node then sum_others node_numbers node (cell row.now) else 0))
         sums.old sums.new }
 {
-    add_numbers(row, sums);
+    let total = add_numbers(row, sums);
     let place = usize::from(node);
     if place < sums.len() {
-        sums[place] -= total_of_others(row, node) as i128;
+        sums[place] -= others_of(total, row, node) as i128;
     }
 }
 

@@ -1,9 +1,9 @@
 -- Lists that are read where they agree with what was asked for.
-use Rattle.std.proofs.Common.{◌≡◌, ℕ, ◌+◌, ◌<◌, Bool, cond, List, [], ◌∷◌, get_or, map, refl, sym, ◌∙◌, ap, arith}
-use Rattle.std.specs.Prelude.{nat_lt, not, ◌==◌, ◌&&◌, slice_index, slice_index_or, Option, ℤ, pos, Result, Ok, Err, IfOk}
+use Rattle.std.proofs.Common.{◌≡◌, ℕ, ◌+◌, ◌<◌, ◌≤◌, Bool, cond, List, [], ◌∷◌, get_or, length, map, refl, sym, subst, ◌∙◌, ap, arith}
+use Rattle.std.specs.Prelude.{nat_lt, not, ◌==◌, ◌&&◌, slice_index, slice_index_or, vec_len, ◌<ℤ◌, Option, ℤ, pos, Result, Ok, Err, IfOk, OnOk}
 use Rattle.std.specs.Int.{int_gap}
 use Rattle.std.specs.List.{All, filter, fold, insert, position_or_len, range_with_len}
-use Rattle.std.proofs.lemmas.List.Elements.{All-cons, All-filter, All-head, All-nil, All-tail}
+use Rattle.std.proofs.lemmas.List.Elements.{All-cons, All-head, All-nil, All-tail}
 use Rattle.std.proofs.lemmas.List.FromFn.{get_or-map-range_with_len}
 use Rattle.std.proofs.lemmas.List.Sorted.{All-permutation, IsPermutation-insert}
 use Rattle.operations.specs.declared.counted.Counted.TheVariants.{Execs, Hits}
@@ -12,8 +12,9 @@ use Rattle.replica_state.specs.Cells.{held_at}
 use Rattle.replica_state.specs.Points.{Held, rights_of_key}
 use Rattle.replica_state.specs.States.{State, rights_of}
 use Rattle.sharing.proofs.Due.{all_below}
+use Rattle.sharing.proofs.Lines.{some_right}
 use Rattle.sharing.specs.declared.room.Room.{Room}
-use Rattle.sharing.specs.Rooms.{IsAsLarge, IsRoomFor}
+use Rattle.sharing.specs.Rooms.{HasPlaces, IsAsLarge, IsRoomForOthers}
 use Rattle.sharing.specs.Memory.{Recalled, seen}
 use Rattle.sharing.specs.Shares.{line_of, passers, placed, waiting}
 
@@ -21,6 +22,10 @@ use Rattle.sharing.specs.Shares.{line_of, passers, placed, waiting}
 pub if_ok : {A E : Type 0} (P Q : A → Type 0) (r : Result A E) → ((x : A) → P x → Q x) → IfOk r P → IfOk r Q
 if_ok P Q (Ok x) f h = f x h
 if_ok P Q (Err e) f h = tt
+
+pub on_ok : {A E : Type 0} (P Q : Type 0) (r : Result A E) → (P → Q) → OnOk r P → OnOk r Q
+on_ok P Q (Ok x) f h = f h
+on_ok P Q (Err e) f h = tt
 
 -- tests that agree on each element choose the same
 pub filter_alike : (p q : ℕ → Bool) (xs : List ℕ) → All (λ x. p x ≡ q x) xs → filter p xs ≡ filter q xs
@@ -65,18 +70,53 @@ pub line_alike : (e f : ℕ → ℕ) (nodes : List ℕ) → All (λ y. e y ≡ f
 line_alike e f nodes h = line_alike_from e f [] nodes (All-nil (λ y. e y ≡ f y)) h
 
 -- room that is as large is room for the same nodes
-pub room_kept : (nodes : List ℕ) (old new : Room) → IsRoomFor nodes old → IsAsLarge old new → IsRoomFor nodes new
-room_kept nodes old new h kept =
+pub room_kept : (old new : Room) → IsRoomForOthers old → IsAsLarge old new → IsRoomForOthers new
+room_kept old new h kept =
     let few_rights = h.few_rights in
     let few_executions = h.few_executions in
     let rights = kept.rights in
     let executions = kept.executions in
     record {
-      rights = λ i d low. let here = h.rights i d low in omega (arith, here, rights);
-      executions = λ i d low. let here = h.executions i d low in omega (arith, here, executions);
+      rights = subst (All (λ node. node < vec_len new.rights)) (sym kept.others)
+          (λ i d low. let here = h.rights i d low in omega (arith, here, rights));
+      executions = subst (All (λ node. node < vec_len new.executions)) (sym kept.others)
+          (λ i d low. let here = h.executions i d low in omega (arith, here, executions));
       few_rights = omega (arith, few_rights, rights);
       few_executions = omega (arith, few_executions, executions);
     }
+
+pub room_for : (nodes : ℕ) (others : List ℕ) (room : Room) → nodes ≤ 256 → All (λ other. other < nodes) others →
+    HasPlaces nodes room → room.others.items ≡ others → IsRoomForOthers room
+room_for nodes others room few within has passed =
+    let rights = has.rights in
+    let executions = has.executions in
+    record {
+      rights = subst (All (λ node. node < vec_len room.rights)) (sym passed)
+          (λ i d low. let here = within i d low in omega (arith, here, rights));
+      executions = subst (All (λ node. node < vec_len room.executions)) (sym passed)
+          (λ i d low. let here = within i d low in omega (arith, here, executions));
+      few_rights = omega (arith, few, rights);
+      few_executions = omega (arith, few, executions);
+    }
+
+pub kept_twice : (a b c : Room) → IsAsLarge a b → IsAsLarge b c → IsAsLarge a c
+kept_twice a b c h k = record {
+  rights = k.rights ∙ h.rights;
+  executions = k.executions ∙ h.executions;
+  others = k.others ∙ h.others;
+}
+
+-- where each has a right, nobody waits
+pub nobody_waits : (rights : List ℤ) (others : List ℕ) → All (λ right. pos 0 <ℤ right) rights →
+    All (λ other. other < length rights) others →
+    filter (λ other. int_gap (pos 0) (slice_index_or rights other (pos 0)) == 0) others ≡ []
+nobody_waits rights [] some within = refl
+nobody_waits rights (x ∷ xs) some within =
+    let P : ℕ → Type 0 = λ other. other < length rights in
+    let free : ℕ → Bool = λ other. int_gap (pos 0) (slice_index_or rights other (pos 0)) == 0 in
+    let right = some_right (slice_index_or rights x (pos 0)) (some x (pos 0) (All-head P x xs within)) in
+    ap (λ b. cond b (x ∷ filter free xs) (filter free xs)) right
+    ∙ nobody_waits rights xs some (All-tail P x xs within)
 
 -- ---- what is stored of a point, read into places
 

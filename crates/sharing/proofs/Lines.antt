@@ -2,6 +2,7 @@
 use Rattle.std.proofs.Common.{◌≡◌, ◌≢◌, ◌≤◌, ℕ, ◌+◌, ◌<◌, Bool, true, false, cond, List, [], ◌∷◌, ◌++◌, length, take, get_or, refl, ◌∙◌, ap, arith}
 use Rattle.std.proofs.Math.Dec.{eqb-suc-zero}
 use Rattle.std.specs.Prelude.{ℤ, pos, ◌≤ℤ◌, ◌<ℤ◌, ◌==◌, ◌&&◌, nat_lt, not}
+use Rattle.std.specs.Prelude.{Vec, vec_len}
 use Rattle.std.specs.Int.{int_gap}
 use Rattle.std.specs.List.{filter}
 use Rattle.std.proofs.lemmas.Int.{ints}
@@ -54,6 +55,9 @@ is_quiet other node before now x y e f h = grind (arith, nat_tests)
 pub nobody : (xs : List ℕ) → true ≡ (length xs == 0) → xs ≡ []
 nobody [] h = refl
 nobody (x ∷ xs) h = let e : true ≡ false = h ∙ eqb-suc-zero (length xs) in cc
+
+pub nobody_in : {A : Type 0} (xs : Vec ℕ A) → true ≡ (vec_len xs == 0) → xs.items ≡ []
+nobody_in xs h = nobody xs.items (h ∙ ap (λ n. n == 0) xs.ok.0)
 
 pub none_spared : (name : List ℕ) (term spare : ℕ) (line : List ℕ) → spare ≡ 0 → shares_in name term spare line ≡ []
 none_spared name term spare line e = ap (λ s. shares_in name term s line) e

@@ -1,13 +1,14 @@
 //! Who waits for rights to one term, in which order, and what each is given.
 
 ghost use Rattle.std.specs.Prelude.{◌≡◌, ◌++◌, ◌∷◌, [], ◌≤◌, ◌==◌, ℕ, List, length, nat_lt, pos};
-ghost use Rattle.std.specs.Prelude.{◌<◌, slice_index, slice_index_or, take, vec_len, OnOk, IfOk};
+ghost use Rattle.std.specs.Prelude.{◌<◌, ◌<ℤ◌, slice_index, slice_index_or, take, vec_len, IsTrue, OnOk};
 ghost use Rattle.std.specs.Int.{int_gap};
 ghost use Rattle.std.specs.List.{All, filter, position_or_len};
 ghost use Rattle.std.specs.List.Sorted.{IsNonDecreasingBy};
 ghost use Rattle.replica_state.specs.Cells.{held_at};
+ghost use Rattle.replica_state.specs.Points.{rights_of_key};
 ghost use Rattle.replica_state.specs.States.{State};
-ghost use Rattle.sharing.specs.Rooms.{IsAsLarge, IsRoomFor};
+ghost use Rattle.sharing.specs.Rooms.{AreRights, IsAsLarge, IsRoomForOthers};
 ghost use Rattle.sharing.specs.Shares.{line_of, placed, share_of, shares_in, spare_of};
 ghost use Rattle.sharing.specs.Shares.{term_shifts, waiting};
 
@@ -36,18 +37,73 @@ pub(crate) fn spare(rights: i128, still: u8) -> u64
     (rights - kept).min(i128::from(u64::MAX)) as u64
 }
 
-/// Of these nodes those that have no right.
-fn waiting(alloc: Global, rights: &[i128], others: &[u8]) -> Result<Vec<u8>, AllocError>
-    ensures { IfOk result (λ waiting. waiting.items ≡ filter
+/// The rights of a node, 0 where there are none of it.
+fn rights_at(rights: &[i128], node: u8) -> i128
+    ensures { result ≡ slice_index_or rights.now node (pos 0) }
+{
+    rights.get(usize::from(node)).copied().unwrap_or(0)
+}
+
+/// The rights of a node, by those of the first nodes where it is one of these.
+fn rights_among<S: Stored>(stored: &S, term: u8, node: u8, rights: &[i128]) -> i128
+    requires { AreRights (S.held stored.now) term rights.now }
+    ensures { result
+        ≡ rights_of_key (S.held stored.now).key (S.held stored.now).number term node }
+{
+    if usize::from(node) < rights.len() {
+        rights_at(rights, node)
+    } else {
+        stored.rights(term, node)
+    }
+}
+
+/// What a node can spare of a term. Where it can't spare any, its own rights are all that is read,
+/// unless it could of the term before: then it mostly can of this one too, and its rights are read with
+/// those of all.
+fn read_spare<S: Stored>(stored: &S, giver: Giver, term: u8, room: &mut Room) -> u64
+    requires { vec_len room.old.rights ≤ 256 }
+    ensures spare { result ≡ spare_of (rights_of_key (S.held stored.now).key
+        (S.held stored.now).number term giver.node) giver.still }
+    ensures rights { 0 < result → AreRights (S.held stored.now) term room.new.rights.items }
+    ensures kept { IsAsLarge room.old room.new }
+{
+    if !room.has_spare && spare(stored.rights(term, giver.node), giver.still) == 0 {
+        return 0;
+    }
+    room.read_rights(stored, term);
+    let rights = rights_among(stored, term, giver.node, &room.rights);
+    let spare = spare(rights, giver.still);
+    room.has_spare = spare > 0;
+    spare
+}
+
+/// Whether each of these rights is one at least.
+fn are_some(rights: &[i128]) -> bool
+    ensures { IsTrue result → All (λ right. pos 0 <ℤ right) rights.now }
+{
+    let mut are_some = true;
+    for place in 0..rights.len() {
+        are_some &= rights[place] > 0;
+    }
+    are_some
+}
+
+/// Writes which of these nodes have no right. Mostly each node has some, and then nobody is looked for.
+fn find_waiting(rights: &[i128], others: &[u8], waiting: &mut Vec<u8>) -> Result<(), AllocError>
+    requires { All (λ other. other < length rights.now) others.now }
+    ensures { OnOk result (waiting.new.items ≡ filter
         (λ other. int_gap (pos 0) (slice_index_or rights.now other (pos 0)) == 0) others.now) }
 {
-    let mut waiting = Vec::new(alloc);
+    waiting.clear();
+    if are_some(rights) {
+        return Ok(());
+    }
     for other in others {
-        if rights.get(usize::from(*other)).copied().unwrap_or(0) <= 0 {
+        if rights[usize::from(*other)] <= 0 {
             waiting.push(*other)?;
         }
     }
-    Ok(waiting)
+    Ok(())
 }
 
 /// The place of a node in a line: before the first that executed the term more often. It is looked
@@ -79,57 +135,48 @@ fn place(executions: &[u64], line: &mut Vec<u8>, node: u8) -> Result<(), AllocEr
     Ok(())
 }
 
-/// These nodes in their line.
-fn in_line(alloc: Global, executions: &[u64], nodes: &[u8]) -> Result<Vec<u8>, AllocError>
-    ensures { IfOk result
-        (λ line. line.items ≡ line_of (slice_index executions.now) nodes.now) }
+/// Writes these nodes in their line.
+fn put_in_line(executions: &[u64], nodes: &[u8], line: &mut Vec<u8>) -> Result<(), AllocError>
+    ensures { OnOk result
+        (line.new.items ≡ line_of (slice_index executions.now) nodes.now) }
 {
-    let mut line = Vec::new(alloc);
+    line.clear();
     for node in nodes {
-        place(executions, &mut line, *node)?;
+        place(executions, line, *node)?;
     }
-    Ok(line)
+    Ok(())
 }
 
-/// Those that wait in their line.
-fn line_of_waiting<S: Stored>(
-    alloc: Global,
-    stored: &S,
-    term: u8,
-    nodes: &[u8],
-    room: &mut Room,
-) -> Result<Vec<u8>, AllocError>
-    requires within { All (λ node. node < vec_len room.old.executions) nodes.now }
+/// Writes those that wait in their line.
+fn line_up_waiting<S: Stored>(stored: &S, term: u8, room: &mut Room) -> Result<(), AllocError>
+    requires within { All (λ node. node < vec_len room.old.executions) room.old.waiting.items }
     requires few { vec_len room.old.executions ≤ 256 }
-    ensures line { IfOk result (λ line. (v : State) (name : List ℕ)
+    ensures line { OnOk result ((v : State) (name : List ℕ)
         → S.held stored.now ≡ held_at v name
-        → line.items ≡ line_of (v.execs name term) nodes.now) }
+        → room.new.line.items ≡ line_of (v.execs name term) room.old.waiting.items) }
     ensures kept { IsAsLarge room.old room.new }
 {
-    if nodes.is_empty() {
-        return Ok(Vec::new(alloc));
+    if room.waiting.is_empty() {
+        room.line.clear();
+        return Ok(());
     }
     room.read_executions(stored, term);
-    in_line(alloc, &room.executions, nodes)
+    put_in_line(&room.executions, &room.waiting, &mut room.line)
 }
 
-/// Of these nodes those that have no right to a term, in their line.
-fn line<S: Stored>(
-    alloc: Global,
-    stored: &S,
-    term: u8,
-    others: &[u8],
-    room: &mut Room,
-) -> Result<Vec<u8>, AllocError>
-    requires { IsRoomFor others.now room.old }
-    ensures line { IfOk result (λ line. (v : State) (name : List ℕ)
+/// Writes those of the others that have no right to a term, by the rights that were read, in their
+/// line.
+fn line_up<S: Stored>(stored: &S, term: u8, room: &mut Room) -> Result<(), AllocError>
+    requires room { IsRoomForOthers room.old }
+    requires rights { AreRights (S.held stored.now) term room.old.rights.items }
+    ensures line { OnOk result ((v : State) (name : List ℕ)
         → S.held stored.now ≡ held_at v name
-        → line.items ≡ line_of (v.execs name term) (waiting v name term others.now)) }
+        → room.new.line.items
+        ≡ line_of (v.execs name term) (waiting v name term room.old.others.items)) }
     ensures kept { IsAsLarge room.old room.new }
 {
-    room.read_rights(stored, term);
-    let waiting = waiting(alloc, &room.rights, others)?;
-    line_of_waiting(alloc, stored, term, &waiting, room)
+    find_waiting(&room.rights, &room.others, &mut room.waiting)?;
+    line_up_waiting(stored, term, room)
 }
 
 /// The first of a line, so many at most.
@@ -187,27 +234,26 @@ fn push_shares(
     Ok(())
 }
 
-/// Adds the shifts of a term, where these others passed since the last round.
+/// Adds the shifts of a term, where the others of the room passed since the last round.
 pub(crate) fn push_term<S: Stored>(
     alloc: Global,
     name: &Name,
     stored: &S,
     giver: Giver,
-    others: &[u8],
     term: u8,
     room: &mut Room,
     shifts: &mut Vec<Shift>,
 ) -> Result<(), AllocError>
-    requires { IsRoomFor others.now room.old }
+    requires { IsRoomForOthers room.old }
     ensures shifts { OnOk result ((v : State) → S.held stored.now ≡ held_at v name.now
         → shifts.new.items ≡ shifts.old.items
-        ++ term_shifts v name.now giver.node giver.still others.now term) }
+        ++ term_shifts v name.now giver.node giver.still room.old.others.items term) }
     ensures kept { IsAsLarge room.old room.new }
 {
-    let spare = spare(stored.rights(term, giver.node), giver.still);
+    let spare = read_spare(stored, giver, term, room);
     if spare == 0 {
         return Ok(());
     }
-    let line = line(alloc, stored, term, others, room)?;
-    push_shares(alloc, name, term, spare, &line, shifts)
+    line_up(stored, term, room)?;
+    push_shares(alloc, name, term, spare, &room.line, shifts)
 }

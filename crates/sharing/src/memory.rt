@@ -6,6 +6,7 @@ ghost use Rattle.sharing.specs.Remembered.{recalled_all};
 
 use crate::point::push_point;
 use crate::remembered::{Remembered, from_name, recall};
+use crate::room::Room;
 use crate::shift::Shift;
 use replica_state::Replica;
 use std::alloc::{AllocError, Global};
@@ -73,12 +74,22 @@ fn round_of<R: Replica>(
 {
     let mut shifts = Vec::new(alloc);
     let mut points = Vec::new(alloc);
+    let mut room = Room::new(alloc, nodes)?;
     // Both stand in byte order of the names, so that one is walked beside the other.
     let mut rest = memory;
     for (name, stored) in replica.points() {
         rest = from_name(rest, name);
         let remembered = recall(rest, name);
-        let after = push_point(alloc, name, stored, remembered, node, nodes, &mut shifts)?;
+        let after = push_point(
+            alloc,
+            name,
+            stored,
+            remembered,
+            node,
+            nodes,
+            &mut room,
+            &mut shifts,
+        )?;
         points.push(after)?;
     }
     Ok((shifts, points))

@@ -1,18 +1,19 @@
 //! One point in a round: who passed it, and what the node shifts of its rights.
 
-ghost use Rattle.std.specs.Prelude.{◌≡◌, ◌<◌, ◌++◌, ◌==◌, ◌&&◌, not, nat_lt, min, ◌+◌, if◌then◌else◌};
+ghost use Rattle.std.specs.Prelude.{◌≡◌, ◌++◌, ◌==◌, ◌&&◌, not, nat_lt, min, ◌+◌, if◌then◌else◌};
 ghost use Rattle.std.specs.Prelude.{map, flat_map, slice_index, OnOk, IfOk};
-ghost use Rattle.std.specs.List.{All, filter, range_with_len};
+ghost use Rattle.std.specs.List.{filter, range_with_len};
 ghost use Rattle.actions.specs.Limits.{max_terms};
 ghost use Rattle.operations.specs.declared.counted.Counted.TheVariants.{Hits};
 ghost use Rattle.replica_state.specs.Cells.{held_at};
 ghost use Rattle.replica_state.specs.States.{State};
 ghost use Rattle.sharing.specs.Memory.{patience, seen, still_before};
 ghost use Rattle.sharing.specs.Remembered.{recalled, recalled_at};
+ghost use Rattle.sharing.specs.Rooms.{HasPlaces, IsAsLarge, IsRoomForOthers};
 ghost use Rattle.sharing.specs.Shares.{point_shifts, recalled_after, term_shifts};
 
 use crate::line::{Giver, push_term};
-use crate::remembered::{PATIENCE, Remembered, number_at, seen, still_before};
+use crate::remembered::{PATIENCE, Remembered, hits_seen, number_at, seen, still_before};
 use crate::room::Room;
 use crate::shift::Shift;
 use actions::{MAX_TERMS, Name};
@@ -29,25 +30,26 @@ fn hits_of<S: Stored>(alloc: Global, stored: &S, nodes: u8) -> Result<Vec<u64>, 
     Ok(hits)
 }
 
-/// The others that passed since the last round, by the hits of each node.
-fn passers(
-    alloc: Global,
+/// Writes the others that passed since the last round, by the hits of each node.
+fn find_passers(
     hits: &[u64],
     remembered: Option<&Remembered>,
     node: u8,
     nodes: u8,
-) -> Result<Vec<u8>, AllocError>
-    ensures { IfOk result (λ others. others.items ≡ filter (λ other. not (other == node)
+    others: &mut Vec<u8>,
+) -> Result<(), AllocError>
+    ensures { OnOk result (others.new.items ≡ filter (λ other. not (other == node)
         && nat_lt (seen (recalled_at remembered.entry) other) (slice_index hits.now other))
         (range_with_len 0 nodes)) }
 {
-    let mut others = Vec::new(alloc);
+    others.clear();
+    let before = hits_seen(remembered);
     for other in 0..nodes {
-        if other != node && seen(remembered, other) < number_at(hits, other) {
+        if other != node && number_at(before, other) < number_at(hits, other) {
             others.push(other)?;
         }
     }
-    Ok(others)
+    Ok(())
 }
 
 /// For how many rounds on end the node hasn't passed.
@@ -67,28 +69,27 @@ fn still_rounds<S: Stored>(stored: &S, remembered: Option<&Remembered>, node: u8
     }
 }
 
-/// Adds the shifts of each term, where these others of so many nodes passed since the last round.
+/// Adds the shifts of each term, where the others of the room passed since the last round.
 fn push_terms<S: Stored>(
     alloc: Global,
     name: &Name,
     stored: &S,
     giver: Giver,
-    nodes: u8,
-    others: &[u8],
+    room: &mut Room,
     shifts: &mut Vec<Shift>,
 ) -> Result<(), AllocError>
-    requires { All (λ other. other < nodes) others.now }
-    ensures { OnOk result ((v : State) → S.held stored.now ≡ held_at v name.now
+    requires { IsRoomForOthers room.old }
+    ensures shifts { OnOk result ((v : State) → S.held stored.now ≡ held_at v name.now
         → shifts.new.items ≡ shifts.old.items
-        ++ flat_map (term_shifts v name.now giver.node giver.still others.now)
+        ++ flat_map (term_shifts v name.now giver.node giver.still room.old.others.items)
         (range_with_len 0 max_terms)) }
+    ensures kept { OnOk result (IsAsLarge room.old room.new) }
 {
-    if others.is_empty() {
+    if room.others.is_empty() {
         return Ok(());
     }
-    let mut room = Room::new(alloc, nodes)?;
     for term in 0..MAX_TERMS {
-        push_term(alloc, name, stored, giver, others, term, &mut room, shifts)?;
+        push_term(alloc, name, stored, giver, term, room, shifts)?;
     }
     Ok(())
 }
@@ -101,20 +102,23 @@ pub(crate) fn push_point<S: Stored>(
     remembered: Option<&Remembered>,
     node: u8,
     nodes: u8,
+    room: &mut Room,
     shifts: &mut Vec<Shift>,
 ) -> Result<Remembered, AllocError>
+    requires { HasPlaces nodes room.old }
     ensures shifts { OnOk result ((v : State) → S.held stored.now ≡ held_at v name.now
         → shifts.new.items ≡ shifts.old.items
         ++ point_shifts v node nodes (recalled_at remembered.entry) name.now) }
     ensures memory { IfOk result (λ after. (v : State) → S.held stored.now ≡ held_at v name.now
         → recalled after
         ≡ recalled_after v node nodes (recalled_at remembered.entry) name.now) }
+    ensures room { OnOk result (HasPlaces nodes room.new) }
 {
     let hits = hits_of(alloc, stored, nodes)?;
-    let others = passers(alloc, &hits, remembered, node, nodes)?;
+    find_passers(&hits, remembered, node, nodes, &mut room.others)?;
     let still = still_rounds(stored, remembered, node);
     let giver = Giver { node, still };
-    push_terms(alloc, name, stored, giver, nodes, &others, shifts)?;
+    push_terms(alloc, name, stored, giver, room, shifts)?;
     let name = name.copied(alloc)?;
     Ok(Remembered { name, hits, still })
 }

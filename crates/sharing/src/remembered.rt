@@ -64,14 +64,22 @@ pub(crate) fn number_at(numbers: &[u64], node: u8) -> u64
     numbers.get(usize::from(node)).copied().unwrap_or(0)
 }
 
+/// The hits of the nodes as of the last round, none at first.
+pub(crate) fn hits_seen<'a>(remembered: Option<&'a Remembered>) -> &'a [u64]
+    ensures { (node : ℕ) → slice_index result.now node
+        ≡ seen (recalled_at remembered.entry) node }
+{
+    match remembered {
+        Some(remembered) => &remembered.hits,
+        None => &[],
+    }
+}
+
 /// The hits of a node as of the last round, 0 at first.
 pub(crate) fn seen(remembered: Option<&Remembered>, node: u8) -> u64
     ensures { result ≡ seen (recalled_at remembered.entry) node }
 {
-    match remembered {
-        Some(remembered) => number_at(&remembered.hits, node),
-        None => 0,
-    }
+    number_at(hits_seen(remembered), node)
 }
 
 /// For how many rounds the node itself hadn't passed then.

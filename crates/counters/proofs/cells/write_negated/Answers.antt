@@ -1,4 +1,4 @@
-use Rattle.std.specs.Prelude.{◌≡◌, ◌^◌, length, map, get_or, replicate, slice_index, pos, ◌-ℤ◌}
+use Rattle.std.specs.Prelude.{◌≡◌, ◌<◌, ◌^◌, length, map, get_or, replicate, slice_index, pos, ◌-ℤ◌}
 use Rattle.std.specs.List.{range_with_len}
 use Rattle.std.proofs.Common.{ap, arith, refl, rules, sym, ◌∙◌, ⊎_elim}
 use Rattle.std.proofs.lemmas.Bool.{cases_lt}
@@ -6,7 +6,7 @@ use Rattle.std.proofs.lemmas.Int.{ints}
 use Rattle.std.proofs.lemmas.List.{get_or-replicate}
 use Rattle.std.proofs.lemmas.List.FromFn.{fill_by_all}
 use Rattle.counters.proofs.CellLemmas.{cell-past}
-use Rattle.counters.proofs.Columns.{within-places}
+use Rattle.counters.proofs.Columns.{place-negated, taken-from-none, within-places}
 use Rattle.counters.specs.Cells.{cell}
 use Rattle.counters.proofs.cells.write_negated.Goals as goal
 
@@ -21,6 +21,19 @@ loop-place-init c =
       left = λ i high inside. ap (λ xs. get_or xs i (pos 0)) zeros
           ∙ get_or-replicate n i (pos 0) (pos 0) (omega (arith, inside, c.fill.ensures.len));
     }
+
+pub loop-place-preserved : goal.loop-place-preserved
+loop-place-preserved c =
+    let numbers = c.as_slice-numbers.result.now in
+    let place = c.loop-place.place in
+    let sums = c.loop-place.sums in
+    let number = c.number_at.ensures in
+    let fits : slice_index numbers place < 2 ^ 64 = omega (arith, number, c.number_at.type_inv) in
+    let inside : place < length sums = omega arith in
+    let none = c.loop-place.invariant.left place (omega arith) inside in
+    place-negated numbers _ sums place _ inside
+    (taken-from-none (get_or sums place (pos 0)) c.from.result (slice_index numbers place) none (search rules) fits)
+    fits c.loop-place.invariant
 
 pub returns-clause-sums : goal.returns-clause-sums
 unfolding cell

@@ -1,17 +1,10 @@
-use Rattle.std.proofs.Common.{◌≡◌, ◌++◌, ap, refl, sym, ◌∙◌, OnOk}
-use Rattle.std.specs.Prelude.{Result, Ok, Err}
-use Rattle.std.proofs.lemmas.Int.{to_z-of_z}
+use Rattle.std.proofs.Common.{arith, ◌≡◌, ◌++◌, ap, sym, ◌∙◌}
 use Rattle.std.proofs.lemmas.List.{append-nil}
-use mir.Syntax.{w128}
 use Rattle.replica_state.specs.States.{rights_of}
 use Rattle.sharing.specs.Shares.{line_of, shares_in, spare_of, term_shifts, waiting}
-use Rattle.sharing.proofs.Alike.{own_read}
+use Rattle.sharing.proofs.Alike.{kept_twice, on_ok, own_read, room_kept}
 use Rattle.sharing.proofs.Lines.{none_spared}
 use Rattle.sharing.proofs.line.push_term.Goals as goal
-
-on_ok : {A E : Type 0} (P Q : Type 0) (r : Result A E) → (P → Q) → OnOk r P → OnOk r Q
-on_ok P Q (Ok x) f h = f h
-on_ok P Q (Err e) f h = tt
 
 pub returns-then-spare-eq0 : goal.returns-then-spare-eq0
 unfolding term_shifts
@@ -23,15 +16,22 @@ returns-then-spare-eq0 g c = record {
       let term = c.args.term in
       let items = c.args.shifts.now.items in
       let h = g.S.Stored.held c.args.stored.now in
-      let spare : c.spare-spare.result ≡ spare_of (rights_of v name term node) still = c.spare-spare.ensures
-      ∙ ap (λ r. spare_of r still) (to_z-of_z w128 c.rights.result (record { sfits = c.rights.type_inv })
-      ∙ c.rights.ensures ∙ own_read v name h same term node) in
-      let line = line_of (v.execs name term) (waiting v name term c.args.others.now) in
+      let spare : c.read_spare-spare.result ≡ spare_of (rights_of v name term node) still =
+      c.read_spare-spare.ensures.spare ∙ ap (λ r. spare_of r still) (own_read v name h same term node) in
+      let line = line_of (v.execs name term) (waiting v name term c.args.room.now.others.items) in
       let none = none_spared name term (spare_of (rights_of v name term node) still) line
       (sym spare ∙ c.if-spare-eq0.true) in
       sym (append-nil items) ∙ ap (λ xs. items ++ xs) (sym none);
-  kept = record { rights = refl; executions = refl };
+  kept = c.read_spare-spare.ensures.kept;
 }
+
+pub line_up-requires : goal.line_up-requires
+line_up-requires g c =
+    let kept = c.read_spare-spare.ensures.kept in
+    record {
+      room = room_kept c.args.room.now c.read_spare-spare.new.room c.requires kept;
+      rights = c.read_spare-spare.ensures.rights (omega (arith, c.if-spare-eq0.false));
+    }
 
 pub returns : goal.returns
 unfolding term_shifts
@@ -44,13 +44,14 @@ returns g c = record {
       let term = c.args.term in
       let items = c.args.shifts.now.items in
       let h = g.S.Stored.held c.args.stored.now in
-      let spare : c.spare-spare.result ≡ spare_of (rights_of v name term node) still = c.spare-spare.ensures
-      ∙ ap (λ r. spare_of r still) (to_z-of_z w128 c.rights.result (record { sfits = c.rights.type_inv })
-      ∙ c.rights.ensures ∙ own_read v name h same term node) in
-      let line = line_of (v.execs name term) (waiting v name term c.args.others.now) in
-      let there = c.deref.ensures.value ∙ c.in_ok-line.ensures.line v name same in
-      made ∙ ap (λ l. items ++ shares_in name term c.spare-spare.result l) there
+      let spare : c.read_spare-spare.result ≡ spare_of (rights_of v name term node) still =
+      c.read_spare-spare.ensures.spare ∙ ap (λ r. spare_of r still) (own_read v name h same term node) in
+      let line = line_of (v.execs name term) (waiting v name term c.args.room.now.others.items) in
+      let there = c.deref.ensures.value ∙ c.in_ok-line_up.ensures.line v name same
+      ∙ ap (λ o. line_of (v.execs name term) (waiting v name term o)) c.read_spare-spare.ensures.kept.others in
+      made ∙ ap (λ l. items ++ shares_in name term c.read_spare-spare.result l) there
       ∙ ap (λ s. items ++ shares_in name term s line) spare)
       c.push_shares.ensures;
-  kept = c.line.ensures.kept;
+  kept = kept_twice c.args.room.now c.read_spare-spare.new.room c.line_up.new.room c.read_spare-spare.ensures.kept
+      c.line_up.ensures.kept;
 }

@@ -32,6 +32,7 @@ loop-name-init g c =
           (subst (λ (ns : List (List ℕ)). IsStrictlySortedBy (slice_cmp nat_cmp) ns) (sym names)
           (names_are_held v (g.met.R.Replica.reached c.args.replica.now)).ascending);
       recalls = recalls_itself memory _;
+      room = c.in_ok-room.ensures;
       held = rw c.into_iter-name-iterator.ensures.into_iter_gives c.points-name-items.ensures.held;
     }
 
@@ -63,5 +64,6 @@ loop-name-preserved g c =
       ascending = sorted_tail (slice_cmp nat_cmp) name left before.ascending;
       recalls = recalls_later _ _ memory name left c.from_name-rest.ensures.above
           (sorted_head (slice_cmp nat_cmp) name left before.ascending) before.recalls.1;
+      room = c.in_ok-after.ensures.room;
       held = before.held.1;
     }

@@ -6,6 +6,7 @@ use Rattle.std.specs.Cmp.Lexicographic.{slice_cmp}
 use Rattle.replica_state.specs.Cells.{held_at}
 use Rattle.sharing.specs.Memory.{recall}
 use Rattle.sharing.specs.Remembered.{recalled_all}
+use Rattle.sharing.specs.Rooms.{HasPlaces}
 use Rattle.sharing.specs.Shares.{memory_after, point_shifts, recalled_after, shifts_of}
 use Rattle.sharing.proofs.Recalling.{RecallsAll}
 use Rattle.sharing.proofs.memory.round_of.Given as goal
@@ -23,5 +24,6 @@ invariant-loop-name g l =
           ≡ memory_after v l.node l.nodes memory;
       ascending : IsStrictlySortedBy (slice_cmp nat_cmp) left;
       recalls : RecallsAll (recalled_all l.rest) memory left;
+      room : HasPlaces l.nodes l.room;
       held : AllByRecursion (λ e. g.R.Point.Stored.held e.1 ≡ held_at v e.0) l.name-iterator;
     }

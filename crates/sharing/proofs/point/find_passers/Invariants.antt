@@ -3,7 +3,7 @@ use Rattle.std.specs.Prelude.{◌==◌, ◌&&◌, not, nat_lt, slice_index}
 use Rattle.std.specs.List.{filter, range_with_len}
 use Rattle.sharing.specs.Memory.{seen}
 use Rattle.sharing.specs.Remembered.{recalled_at}
-use Rattle.sharing.proofs.point.passers.Given as goal
+use Rattle.sharing.proofs.point.find_passers.Given as goal
 
 abbrev pub invariant-loop-other : goal.invariant-loop-other
 invariant-loop-other l =

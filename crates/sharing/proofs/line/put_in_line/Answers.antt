@@ -4,7 +4,7 @@ use Rattle.std.specs.List.Sorted.{IsNonDecreasingBy}
 use Rattle.sharing.specs.Shares.{placed}
 use Rattle.sharing.proofs.Due.{line_in_order}
 use Rattle.sharing.proofs.Lines.{line_next}
-use Rattle.sharing.proofs.line.in_line.Goals as goal
+use Rattle.sharing.proofs.line.put_in_line.Goals as goal
 
 pub place-requires : goal.place-requires
 place-requires c =

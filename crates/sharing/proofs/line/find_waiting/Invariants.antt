@@ -2,7 +2,7 @@ use Rattle.std.proofs.Common.{◌≡◌, take}
 use Rattle.std.specs.Prelude.{◌==◌, pos, slice_index_or}
 use Rattle.std.specs.Int.{int_gap}
 use Rattle.std.specs.List.{filter}
-use Rattle.sharing.proofs.line.waiting.Given as goal
+use Rattle.sharing.proofs.line.find_waiting.Given as goal
 
 abbrev pub invariant-loop-other : goal.invariant-loop-other
 invariant-loop-other l =
