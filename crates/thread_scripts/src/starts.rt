@@ -4,8 +4,9 @@ ghost use Rattle.std.specs.Prelude.{◌≡◌, ◌≢◌, ◌++◌, ◌∷◌, [
 ghost use Rattle.node_calls.specs.Told.{ask_ref_told};
 ghost use Rattle.node_registry.specs.Receipts.{AreGivenSince};
 ghost use Rattle.thread_plans.specs.Plans.{start_line_value};
-ghost use Rattle.thread_scripts.specs.Calls.{Adds, AreMade, AreOfLine, AreOfSpread, AreOfStarts};
-ghost use Rattle.thread_scripts.specs.Calls.{fault_list, placed};
+ghost use Rattle.thread_workers.specs.Calls.{AreMade};
+ghost use Rattle.thread_scripts.specs.Calls.{Adds, AreOfLine, AreOfSpread, AreOfStarts, fault_list};
+ghost use Rattle.thread_scripts.specs.Calls.{placed};
 
 use crate::lists::put_behind;
 use gossip::{Ended, spread};

@@ -7,9 +7,7 @@ ghost use Rattle.thread_warnings.specs.RefusedStarts.{refused_sum, start_refused
 use crate::unfit::say_unfit;
 use node_calls::NodeFault;
 use std::alloc::{AllocError, Global};
-
-/// The most lines that are named.
-const MOST_NAMED: usize = 20;
+use thread_plans::MOST_NAMED;
 
 fn put_fault(faults: &mut Vec<Option<NodeFault>>, place: usize, fault: NodeFault)
     ensures { faults.new.items ≡ slice_set faults.old.items place (Some fault) }
@@ -54,7 +52,7 @@ fn say_start(
 ) -> Result<(), AllocError>
     ensures { OnOk result (said.new.items ≡ said.old.items ++ start_refused named number fault) }
 {
-    if named < MOST_NAMED {
+    if named < MOST_NAMED as usize {
         say_unfit(alloc, number, fault, said)
     } else {
         Ok(())
@@ -65,7 +63,7 @@ fn say_start(
 fn say_sum(alloc: Global, named: usize, said: &mut Vec<u8>) -> Result<(), AllocError>
     ensures { OnOk result (said.new.items ≡ said.old.items ++ refused_sum named) }
 {
-    if named <= MOST_NAMED {
+    if named <= MOST_NAMED as usize {
         return Ok(());
     }
     let text = format!(in alloc; "start lines that are refused: {named}\n")?;

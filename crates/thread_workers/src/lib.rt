@@ -1,0 +1,15 @@
+//! The workers of a node in a script of threads: what they ask, what they wait for, and what they came to.
+#![tactic(auto)]
+
+mod asks;
+mod finished;
+mod refused;
+mod steps;
+mod turns;
+mod waits;
+mod work;
+
+pub use finished::Finished;
+pub use steps::Steps;
+pub use waits::{Await, Waits, is_known};
+pub use work::work;
