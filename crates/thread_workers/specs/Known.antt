@@ -1,5 +1,5 @@
 -- What a worker waits for: that its node knows a setting.
-use Rattle.std.specs.Prelude.{ℕ, Bool, false, ◌||◌, ◌&&◌, ◌==◌, List, is_some, nat_le, nat_lt, Option, Some, None}
+use Rattle.std.specs.Prelude.{Bool, false, ◌||◌, ◌&&◌, ◌==◌, is_some, nat_le, nat_lt, Option, Some, None}
 use Rattle.stamp_register.specs.declared.key.Stamp.{Stamp}
 use Rattle.stamp_register.specs.Keys.{KeyValue}
 

@@ -7,9 +7,9 @@ mod refused;
 mod steps;
 mod turns;
 mod waits;
-mod work;
+mod working;
 
 pub use finished::Finished;
 pub use steps::Steps;
 pub use waits::{Await, Waits, is_known};
-pub use work::work;
+pub use working::work;

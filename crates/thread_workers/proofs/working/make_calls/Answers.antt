@@ -1,7 +1,7 @@
 use Rattle.std.proofs.Common.{true≢false, sym}
 use Rattle.thread_workers.proofs.Made.{each_made}
 use Rattle.thread_workers.proofs.Seats.{each_counted, each_given}
-use Rattle.thread_workers.proofs.work.make_calls.Goals as goal
+use Rattle.thread_workers.proofs.working.make_calls.Goals as goal
 
 pub returns-in-Ok-clause-counted : goal.returns-in-Ok-clause-counted
 returns-in-Ok-clause-counted g c =

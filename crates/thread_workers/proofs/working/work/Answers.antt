@@ -1,5 +1,5 @@
 use Rattle.thread_workers.proofs.Made.{of_workers}
-use Rattle.thread_workers.proofs.work.work.Goals as goal
+use Rattle.thread_workers.proofs.working.work.Goals as goal
 
 pub returns-clause-calls : goal.returns-clause-calls
 returns-clause-calls g c =
