@@ -1,5 +1,5 @@
 -- The lists of a node's receipts, and those of all nodes.
-use Rattle.std.proofs.Common.{◌≡◌, ◌∙◌, ℕ, ◌+◌, List, [], ◌∷◌, ◌++◌, length, length-append, ap, sym, refl, subst, Some, None, arith}
+use Rattle.std.proofs.Common.{◌≡◌, ◌∙◌, ℕ, ◌+◌, List, [], ◌∷◌, ◌++◌, length, length-append, ap, sym, refl, subst, append_assoc, Some, None, arith}
 use Rattle.std.specs.Prelude.{Vec, Result, Ok, IfOk}
 use Rattle.std.specs.declared.alloc.AllocError.{AllocError}
 use Rattle.std.specs.declared.alloc.Global.{Global}
@@ -20,28 +20,29 @@ use Rattle.thread_scripts.specs.Plays.{AreListsBelow, AreOfNode, AreOfWork, Part
 use Rattle.thread_scripts.proofs.Numbered.{AllFrom-push}
 
 -- workers alone
-pub of_workers : (config : Config) (seed : List ℕ) (blocks : List BlockValue) (was lists : Lists)
-    (faults : List NodeFault) → AreOfWorkers config seed blocks was lists faults
+pub of_workers : (config : Config) (seed : List ℕ) (blocks : List BlockValue) (worked was lists : Lists)
+    (faults : List NodeFault) → AreOfWorkers config seed blocks worked faults → lists ≡ was ++ worked
     → AreOfWork config seed blocks None was lists faults
-of_workers config seed blocks was lists faults worked = record {
-  between = lists;
-  gossiped = [];
+of_workers config seed blocks worked was lists faults made then = record {
   worked = worked;
-  all = sym (append-nil lists);
+  gossiped = [];
+  all = then ∙ ap (λ ls. was ++ ls) (sym (append-nil worked));
+  made = made;
   told = refl;
 }
 
 -- workers, and gossip beside them
 pub of_both : (config : Config) (seed : List ℕ) (blocks : List BlockValue) (gossip : Place × Rounds) (now : Place)
-    (answer : Result (Vec Receipt Global) AllocError) (receipts : Vec Receipt Global) (was between lists : Lists)
-    (faults : List NodeFault) → AreOfWorkers config seed blocks was between faults → answer ≡ Ok receipts
-    → lists ≡ between ++ receipts ∷ [] → IfOk answer (λ rs. IsGossip config seed gossip now rs.items)
+    (answer : Result (Vec Receipt Global) AllocError) (receipts : Vec Receipt Global) (worked was between lists : Lists)
+    (faults : List NodeFault) → AreOfWorkers config seed blocks worked faults → between ≡ was ++ worked
+    → answer ≡ Ok receipts → lists ≡ between ++ receipts ∷ []
+    → IfOk answer (λ rs. IsGossip config seed gossip now rs.items)
     → AreOfWork config seed blocks (Some gossip) was lists faults
-of_both config seed blocks gossip now answer receipts was between lists faults worked done then is = record {
-  between = between;
-  gossiped = receipts ∷ [];
+of_both config seed blocks gossip now answer receipts worked was between lists faults made first done then is = record {
   worked = worked;
-  all = then;
+  gossiped = receipts ∷ [];
+  all = then ∙ ap (λ ls. ls ++ receipts ∷ []) first ∙ append_assoc was worked (receipts ∷ []);
+  made = made;
   told = (receipts, now, refl, rw done at is);
 }
 

@@ -45,10 +45,10 @@ gossip_at plan node = gossip_over (new_place plan.nodes node) plan.gossip
 -- these blocks were refused
 pub record AreOfWork (config : Config) (seed : List ℕ) (blocks : List BlockValue) (gossip : Option (Place × Rounds))
     (was lists : Lists) (faults : FaultList) : Type 0 where
-  pub between : Lists
+  pub worked : Lists
   pub gossiped : Lists
-  pub worked : AreOfWorkers config seed blocks was between faults
-  pub all : lists ≡ between ++ gossiped
+  pub all : lists ≡ was ++ (worked ++ gossiped)
+  pub made : AreOfWorkers config seed blocks worked faults
   pub told : AreOfGossip config seed gossip gossiped
 
 -- The lists of a node of a plan: of what it does before its workers, of each of its blocks, and of its gossip. It gave

@@ -39,11 +39,11 @@ pub(crate) struct Gossiped<L: Label> {
     ghost counted: { count_or receipts seat ≡ seat },
 }
 
-/// What workers and gossip came to beside each other: the seats that are done but that of gossip, and why
-/// calls of workers were refused.
+/// What workers and gossip came to beside each other: the seats of the workers, and why their calls were
+/// refused; and gossip.
 #[derive(Drop)]
 pub(crate) struct Both<L: Label> {
-    pub finished: Finished<L>,
+    pub worked: Finished<L>,
     pub faults: Vec<NodeFault>,
     pub gossiped: Gossiped<L>,
 }
@@ -122,7 +122,7 @@ fn run_gossip<L: Label, R: Wait>(
     }
 }
 
-// A node's gossip and the seats of its workers, none of which has called yet, and seats that are done.
+// A node's gossip and the seats of its workers, none of which has called yet.
 #[derive(Drop)]
 struct Crew<'a, L: Label> {
     blocks: &'a [Block<'a>],
@@ -130,12 +130,10 @@ struct Crew<'a, L: Label> {
     seat: Seat<L>,
     gossip: Gossip,
     seats: Vec<Seat<L>>,
-    finished: Finished<L>,
     ghost fresh_seat: { seat ≡ 0 },
     ghost number: { vec_len seats ≤ 65536 },
     ghost each: { vec_len seats ≡ count_by (λ b. b.node == node) blocks.now },
     ghost fresh: { All (λ calls. calls ≡ 0) seats.items },
-    ghost given: { AreListsAt L.config L.seed finished.lists.items },
 }
 
 // A gossip's thread does so many rounds over this wire.
@@ -215,13 +213,13 @@ fn work_in<'s, E, L: Label + Send + Sync + 's, R: Threads + Wait + Sync>(
     refused: &'s AtomicBool,
     crew: Crew<'s, L>,
 ) -> Result<Both<L>, AllocError>
-    ensures len { IfOk result (λ both. vec_len both.finished.seats
-        ≡ vec_len crew.entry.finished.seats + vec_len crew.entry.seats) }
+    ensures len { IfOk result (λ both.
+        vec_len both.worked.seats ≡ vec_len crew.entry.seats) }
     ensures given { IfOk result (λ both.
-        AreListsAt L.config L.seed both.finished.lists.items) }
+        AreListsAt L.config L.seed both.worked.lists.items) }
     ensures calls { IfOk result (λ both. AreOfWorkers L.config L.seed
         (of_node crew.entry.node (map block_value crew.entry.blocks.now))
-        crew.entry.finished.lists.items both.finished.lists.items both.faults.items) }
+        both.worked.lists.items both.faults.items) }
     ensures gossiped { IfOk result (λ both. IfOk both.gossiped.receipts (λ rs.
         IsGossip L.config L.seed (crew.entry.gossip.wire, crew.entry.gossip.rounds)
         both.gossiped.wire rs.items)) }
@@ -232,16 +230,15 @@ fn work_in<'s, E, L: Label + Send + Sync + 's, R: Threads + Wait + Sync>(
         seat,
         gossip,
         seats,
-        finished,
     } = crew;
     let gossiping = start_gossip(
         scope, rt, alloc, registry, waits, node, refused, seat, gossip,
     );
-    let worked = work(rt, alloc, registry, waits, blocks, node, seats, finished);
+    let worked = work(rt, alloc, registry, waits, blocks, node, seats);
     let gossiped = join_gossip(rt, gossiping);
-    let (finished, faults) = worked?;
+    let (worked, faults) = worked?;
     Ok(Both {
-        finished,
+        worked,
         faults,
         gossiped,
     })
@@ -259,20 +256,17 @@ pub(crate) fn work_and_gossip<L: Label + Send + Sync, R: Threads + Wait + Sync>(
     seat: Seat<L>,
     gossip: Gossip,
     seats: Vec<Seat<L>>,
-    finished: Finished<L>,
 ) -> Result<Both<L>, AllocError>
     requires seat { seat ≡ 0 }
     requires number { vec_len seats ≤ 65536 }
     requires each { vec_len seats ≡ count_by (λ b. b.node == node) blocks.now }
     requires fresh { All (λ calls. calls ≡ 0) seats.items }
-    requires given { AreListsAt L.config L.seed finished.lists.items }
-    ensures len { IfOk result (λ both. vec_len both.finished.seats
-        ≡ vec_len finished.seats + vec_len seats) }
+    ensures len { IfOk result (λ both. vec_len both.worked.seats ≡ vec_len seats) }
     ensures given { IfOk result (λ both.
-        AreListsAt L.config L.seed both.finished.lists.items) }
+        AreListsAt L.config L.seed both.worked.lists.items) }
     ensures calls { IfOk result (λ both. AreOfWorkers L.config L.seed
         (of_node node (map block_value blocks.now))
-        finished.lists.items both.finished.lists.items both.faults.items) }
+        both.worked.lists.items both.faults.items) }
     ensures gossiped { IfOk result (λ both. IfOk both.gossiped.receipts (λ rs.
         IsGossip L.config L.seed (gossip.wire, gossip.rounds) both.gossiped.wire rs.items)) }
 {
@@ -282,7 +276,6 @@ pub(crate) fn work_and_gossip<L: Label + Send + Sync, R: Threads + Wait + Sync>(
         seat,
         gossip,
         seats,
-        finished,
     };
     let refused = AtomicBool::new(false);
     let refused = &refused;
@@ -290,13 +283,13 @@ pub(crate) fn work_and_gossip<L: Label + Send + Sync, R: Threads + Wait + Sync>(
         thread::scope_env(),
         rt,
         |scope| -> Result<Both<L>, AllocError>
-            ensures len { IfOk result (λ both. vec_len both.finished.seats
-                ≡ vec_len crew.entry.finished.seats + vec_len crew.entry.seats) }
+            ensures len { IfOk result (λ both.
+                vec_len both.worked.seats ≡ vec_len crew.entry.seats) }
             ensures given { IfOk result (λ both.
-                AreListsAt L.config L.seed both.finished.lists.items) }
+                AreListsAt L.config L.seed both.worked.lists.items) }
             ensures calls { IfOk result (λ both. AreOfWorkers L.config L.seed
                 (of_node crew.entry.node (map block_value crew.entry.blocks.now))
-                crew.entry.finished.lists.items both.finished.lists.items both.faults.items) }
+                both.worked.lists.items both.faults.items) }
             ensures gossiped { IfOk result (λ both. IfOk both.gossiped.receipts (λ rs.
                 IsGossip L.config L.seed (crew.entry.gossip.wire, crew.entry.gossip.rounds)
                 both.gossiped.wire rs.items)) }

@@ -4,7 +4,6 @@
 
 mod beside;
 pub mod laws;
-mod lists;
 mod nodes;
 mod output;
 mod played;

@@ -72,13 +72,14 @@ fn make_calls_beside<L: Label + Send + Sync, R: Threads + Wait + Sync>(
         finished.lists.items all.0.lists.items all.1.items) }
 {
     let Some(gossip) = gossip else {
-        return work(rt, alloc, registry, waits, &plan.blocks, node, seats, finished);
+        let (worked, faults) = work(rt, alloc, registry, waits, &plan.blocks, node, seats)?;
+        return Ok((finished.with_all(worked)?, faults));
     };
     let Some(seat) = seats.pop() else {
         unreachable!();
     };
     let Both {
-        finished,
+        worked,
         faults,
         gossiped,
     } = work_and_gossip(
@@ -91,8 +92,8 @@ fn make_calls_beside<L: Label + Send + Sync, R: Threads + Wait + Sync>(
         seat,
         gossip,
         seats,
-        finished,
     )?;
+    let finished = finished.with_all(worked)?;
     Ok((with_gossip(finished, gossiped)?, faults))
 }
 

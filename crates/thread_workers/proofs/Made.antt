@@ -196,15 +196,15 @@ of_blocks {L = L} config seed (b ∷ bs) (j ∷ js) (d ∷ ds) same back memory 
 
 -- so the lists and the faults of workers that were to do what blocks ask
 pub of_workers : {L : Type 0} (config : Config) (seed : List ℕ) (blocks : List BlockValue) (jobs : List (Job L))
-    (dones : List (Done L)) (was lists : Lists) (faults : List NodeFault)
+    (dones : List (Done L)) (lists : Lists) (faults : List NodeFault)
     → map (λ (j : Job L). map ask_told j.asks.items) jobs ≡ map asks_of_block blocks
     → AllZip (λ (j : Job L) (d : Done L). HandsBack config seed (map ask_told j.asks.items) d) jobs dones
     → All (λ (d : Done L). lack_memory d.faults.items ≡ false) dones
-    → faults ≡ flat_map (λ (d : Done L). faults_told d) dones
-    → lists ≡ was ++ map (λ (d : Done L). d.receipts) dones → AreOfWorkers config seed blocks was lists faults
-of_workers {L = L} config seed blocks jobs dones was lists faults same back memory why all = record {
+    → faults ≡ flat_map (λ (d : Done L). faults_told d) dones → lists ≡ map (λ (d : Done L). d.receipts) dones
+    → AreOfWorkers config seed blocks lists faults
+of_workers {L = L} config seed blocks jobs dones lists faults same back memory why all = record {
   workers = map (λ (d : Done L). worked_of d) dones;
-  all = all ∙ ap (λ ls. was ++ ls) (sym (lists_of_workers dones));
+  all = all ∙ sym (lists_of_workers dones);
   refused = why ∙ faults_of_workers config seed jobs dones back;
   worked = of_blocks config seed blocks jobs dones same back memory;
 }

@@ -1,5 +1,5 @@
 -- What the workers of a node come to.
-use Rattle.std.specs.Prelude.{◌≡◌, ℕ, ◌==◌, List, ◌++◌, map, All, Vec}
+use Rattle.std.specs.Prelude.{◌≡◌, ℕ, ◌==◌, List, map, All, Vec}
 use Rattle.std.specs.List.{AllZip, filter, flat_map}
 use Rattle.std.specs.declared.alloc.Global.{Global}
 use Rattle.node_steps.specs.declared.config.Config.{Config}
@@ -27,11 +27,10 @@ Worked = Vec Receipt Global × List Refusal
 abbrev pub IsOfBlock : Config → List ℕ → BlockValue → Worked → Type 0
 IsOfBlock config seed block worked = AreOfThread config seed (asks_of_block block) worked.0.items worked.1
 
--- Behind lists that were there before: a list for each of these blocks, in their order. The faults say why calls of
--- these blocks were refused
-pub record AreOfWorkers (config : Config) (seed : List ℕ) (blocks : List BlockValue) (was lists : Lists)
-    (faults : FaultList) : Type 0 where
+-- a list for each of these blocks, in their order, and why calls of these blocks were refused
+pub record AreOfWorkers (config : Config) (seed : List ℕ) (blocks : List BlockValue) (lists : Lists) (faults : FaultList)
+    : Type 0 where
   pub workers : List Worked
-  pub all : lists ≡ was ++ map (λ (w : Worked). w.0) workers
+  pub all : lists ≡ map (λ (w : Worked). w.0) workers
   pub refused : faults ≡ flat_map (λ (w : Worked). faults_of w.1) workers
   pub worked : AllZip (IsOfBlock config seed) blocks workers

@@ -7,6 +7,7 @@ ghost use Rattle.node_registry.specs.Receipts.{AreGivenSince};
 ghost use Rattle.thread_workers.specs.Calls.{lack_memory};
 ghost use Rattle.thread_workers.specs.Workers.{AreListsAt};
 
+use crate::lists::put_behind;
 use node_core::{NodeFault, Receipt};
 use node_registry::{Done, Label, Seat};
 use std::alloc::{AllocError, Global};
@@ -62,6 +63,29 @@ impl<L: Label> Finished<L> {
         } = self;
         seats.push(seat)?;
         lists.push(receipts)?;
+        Ok(Finished { seats, lists })
+    }
+
+    /// With all seats of others behind them.
+    pub fn with_all(self, others: Finished<L>) -> Result<Finished<L>, AllocError>
+        requires given { AreListsAt L.config L.seed self.lists.items }
+        requires more { AreListsAt L.config L.seed others.lists.items }
+        ensures len { IfOk result (λ all.
+            vec_len all.seats ≡ vec_len self.seats + vec_len others.seats) }
+        ensures given { IfOk result (λ all. AreListsAt L.config L.seed all.lists.items) }
+        ensures lists { IfOk result (λ all.
+            all.lists.items ≡ self.lists.items ++ others.lists.items) }
+    {
+        let Finished {
+            mut seats,
+            mut lists,
+        } = self;
+        let Finished {
+            seats: more,
+            lists: others,
+        } = others;
+        put_behind(&mut seats, more)?;
+        put_behind(&mut lists, others)?;
         Ok(Finished { seats, lists })
     }
 

@@ -3,6 +3,7 @@
 
 mod asks;
 mod finished;
+mod lists;
 mod refused;
 mod steps;
 mod turns;
@@ -10,6 +11,7 @@ mod waits;
 mod working;
 
 pub use finished::Finished;
+pub use lists::put_behind;
 pub use steps::Steps;
 pub use waits::{Await, Waits, is_known};
 pub use working::work;

@@ -1,6 +1,6 @@
 //! The workers of a node, each in a thread of its own.
 
-ghost use Rattle.std.specs.Prelude.{◌≡◌, ◌+◌, ◌<◌, ◌≤◌, ◌^◌, ◌==◌, count_by, map, vec_len, All, IfOk};
+ghost use Rattle.std.specs.Prelude.{◌≡◌, ◌<◌, ◌≤◌, ◌^◌, ◌==◌, count_by, map, vec_len, All, IfOk};
 ghost use Rattle.std.specs.List.{AllZip};
 ghost use Rattle.node_calls.specs.Told.{ask_told};
 ghost use Rattle.node_registry.specs.Receipts.{AreGivenSince};
@@ -53,9 +53,9 @@ fn make_calls<L: Label + Send + Sync, R: Threads + Wait + Sync>(
 }
 
 /// Makes the calls of those of these blocks that are a node's, each block in a thread of its own that waits
-/// before calls as `waits` says, from as many seats without a call. Answers the seats that were done before
-/// with these behind them, and why calls of these blocks were refused, in the order of the blocks and of
-/// the calls of each. Memory that is refused to one of them is that of all.
+/// before calls as `waits` says, from as many seats without a call. Answers these seats with a list for each
+/// block, in their order, and why calls of these blocks were refused, in the order of the blocks and of the
+/// calls of each. Where memory is refused to one of them, it is to all.
 pub fn work<L: Label + Send + Sync, R: Threads + Wait + Sync>(
     rt: &R,
     alloc: Global,
@@ -64,21 +64,17 @@ pub fn work<L: Label + Send + Sync, R: Threads + Wait + Sync>(
     blocks: &[Block<'_>],
     node: u8,
     seats: Vec<Seat<L>>,
-    finished: Finished<L>,
 ) -> Result<(Finished<L>, Vec<NodeFault>), AllocError>
     requires number { vec_len seats ≤ 65536 }
     requires each { vec_len seats ≡ count_by (λ b. b.node == node) blocks.now }
     requires fresh { All (λ calls. calls ≡ 0) seats.items }
-    requires given { AreListsAt L.config L.seed finished.lists.items }
-    ensures len { IfOk result (λ all.
-        vec_len all.0.seats ≡ vec_len finished.seats + vec_len seats) }
+    ensures len { IfOk result (λ all. vec_len all.0.seats ≡ vec_len seats) }
     ensures given { IfOk result (λ all. AreListsAt L.config L.seed all.0.lists.items) }
     ensures calls { IfOk result (λ all. AreOfWorkers L.config L.seed
-        (of_node node (map block_value blocks.now))
-        finished.lists.items all.0.lists.items all.1.items) }
+        (of_node node (map block_value blocks.now)) all.0.lists.items all.1.items) }
 {
     let jobs = jobs_of(alloc, registry, seats, blocks, node)?;
     let dones = make_calls(rt, alloc, registry, waits, node, jobs)?;
     let faults = faults_of(alloc, &dones)?;
-    Ok((finished.with_workers(dones)?, faults))
+    Ok((Finished::new(alloc).with_workers(dones)?, faults))
 }

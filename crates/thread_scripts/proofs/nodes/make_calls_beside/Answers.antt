@@ -5,8 +5,9 @@ use Rattle.thread_scripts.proofs.nodes.make_calls_beside.Goals as goal
 
 pub work_and_gossip-requires-clause-fresh : goal.work_and_gossip-requires-clause-fresh
 work_and_gossip-requires-clause-fresh g c =
-    before_last (λ (calls : ℕ). calls ≡ 0) c.pop.new.self.items c.in-Some-pop.seat
-    (rw c.in-Some-pop.ensures.items at c.requires.fresh)
+    let first = before_last (λ (calls : ℕ). calls ≡ 0) c.pop.new.self.items c.in-Some-pop.seat
+    (rw c.in-Some-pop.ensures.items at c.requires.fresh) in
+    search (rules, first)
 
 pub work_and_gossip-requires-clause-seat : goal.work_and_gossip-requires-clause-seat
 work_and_gossip-requires-clause-seat g c =
@@ -18,13 +19,16 @@ work_and_gossip-requires-clause-seat g c =
 pub returns-in_default-clause-calls : goal.returns-in_default-clause-calls
 returns-in_default-clause-calls g c =
     let none : c.args.gossip ≡ None = search rules in
-    rw none (of_workers g.L.Label.config g.L.Label.seed _ c.args.finished.lists.items _ _ c.work.ensures.calls)
+    rw none (of_workers g.L.Label.config g.L.Label.seed _ c.in_ok-worked.worked.lists.items
+    c.args.finished.lists.items _ _ (rw c.deref.ensures.value at c.in_ok-worked.ensures.calls)
+    c.in_ok-with_all.ensures.lists)
 
 pub returns-clause-calls : goal.returns-clause-calls
 returns-clause-calls g c =
-    let both = c.in_ok-finished.both in
     let gossip = c.in-Some.gossip in
+    let gossiped = c.in_ok-worked-2.gossiped in
     let is = c.in_ok-with_gossip.ensures.lists in
-    rw c.in-Some.is (of_both g.L.Label.config g.L.Label.seed _ (gossip.wire, gossip.rounds) both.gossiped.wire
-    both.gossiped.receipts is.0 c.args.finished.lists.items both.finished.lists.items _ _
-    c.in_ok-both.ensures.calls is.1 is.2 c.in_ok-both.ensures.gossiped)
+    rw c.in-Some.is (of_both g.L.Label.config g.L.Label.seed _ (gossip.wire, gossip.rounds) gossiped.wire
+    gossiped.receipts is.0 c.in_ok-worked-2.worked.lists.items c.args.finished.lists.items
+    c.in_ok-finished.finished.lists.items _ _ (rw c.deref-2.ensures.value at c.in_ok-worked-2.ensures.calls)
+    c.in_ok-finished.ensures.lists is.1 is.2 c.in_ok-worked-2.ensures.gossiped)

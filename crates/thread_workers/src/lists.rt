@@ -5,7 +5,7 @@ ghost use Rattle.std.specs.Prelude.{◌≡◌, ◌++◌, OnOk};
 use std::alloc::AllocError;
 
 /// Puts all of a list behind another one.
-pub(crate) fn put_behind<T: Drop>(all: &mut Vec<T>, more: Vec<T>) -> Result<(), AllocError>
+pub fn put_behind<T: Drop>(all: &mut Vec<T>, more: Vec<T>) -> Result<(), AllocError>
     ensures { OnOk result (all.new.items ≡ all.old.items ++ more.items) }
 {
     all.extend(more)

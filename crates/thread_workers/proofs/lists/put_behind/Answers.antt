@@ -1,7 +1,7 @@
 use Rattle.std.proofs.Common.{◌∙◌, ◌++◌, ap, sym}
 use Rattle.std.proofs.lemmas.List.{map-id}
 use Rattle.std.proofs.lemmas.Iterator.Adapters.{YieldsList-from_vec, fact_from_extend}
-use Rattle.thread_scripts.proofs.lists.put_behind.Goals as goal
+use Rattle.thread_workers.proofs.lists.put_behind.Goals as goal
 
 pub returns : goal.returns
 returns g c =
