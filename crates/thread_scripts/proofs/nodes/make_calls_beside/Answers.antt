@@ -26,9 +26,9 @@ returns-in_default-clause-calls g c =
 pub returns-clause-calls : goal.returns-clause-calls
 returns-clause-calls g c =
     let gossip = c.in-Some.gossip in
-    let gossiped = c.in_ok-worked-2.gossiped in
+    let both = c.in_ok-worked-2.field-0 in
     let is = c.in_ok-with_gossip.ensures.lists in
-    rw c.in-Some.is (of_both g.L.Label.config g.L.Label.seed _ (gossip.wire, gossip.rounds) gossiped.wire
-    gossiped.receipts is.0 c.in_ok-worked-2.worked.lists.items c.args.finished.lists.items
+    rw c.in-Some.is (of_both g.L.Label.config g.L.Label.seed _ (gossip.wire, gossip.rounds) both.gossiped.wire
+    both.gossiped.receipts is.0 both.worked.lists.items c.args.finished.lists.items
     c.in_ok-finished.finished.lists.items _ _ (rw c.deref-2.ensures.value at c.in_ok-worked-2.ensures.calls)
     c.in_ok-finished.ensures.lists is.1 is.2 c.in_ok-worked-2.ensures.gossiped)
