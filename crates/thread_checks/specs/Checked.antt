@@ -1,5 +1,5 @@
 -- The plan that is played of a script of threads that is checked, and what is said of the lines that fail.
-use Rattle.std.specs.Prelude.{◌≡◌, ℕ, ◌+◌, ◌^◌, Bool, List, [], ◌∷◌, ◌++◌, nat_lt, slice_get, if◌then◌else◌, codes, IfOk, Option, Some, None, Ok}
+use Rattle.std.specs.Prelude.{◌≡◌, ℕ, ◌+◌, ◌^◌, Bool, List, [], ◌++◌, nat_lt, slice_get, if◌then◌else◌, codes, IfOk, Option, Some, None}
 use Rattle.scripts.specs.Checks.{checked_text}
 use Rattle.thread_plans.specs.declared.plan.RoundKind.{RoundKind}
 use Rattle.thread_plans.specs.declared.plan.RoundKind.TheVariants as kinds

@@ -1,4 +1,4 @@
-use Rattle.std.proofs.Common.{◌≡◌, ap, arith, length, length-append, refl, rules}
+use Rattle.std.proofs.Common.{ap, arith, length, length-append, refl, rules}
 use Rattle.thread_scripts.proofs.Numbered.{OnOk-map}
 use Rattle.thread_workers.proofs.Seats.{given_after}
 use Rattle.thread_scripts.proofs.StartLines.{done_of}
