@@ -18,11 +18,7 @@ fn is_kept<R: Files>(rt: &R, path: &str) -> bool {
 }
 
 // The first file that is there and may have a part, of this run or of another one.
-fn kept_part<R: Files>(
-    rt: &R,
-    alloc: Global,
-    folder: &str,
-) -> Result<Option<String>, AllocError> {
+fn kept_part<R: Files>(rt: &R, alloc: Global, folder: &str) -> Result<Option<String>, AllocError> {
     for node in 0..MOST_NODES {
         let path = part_path(alloc, folder, node)?;
         if is_kept(rt, &path) {

@@ -93,10 +93,10 @@ one_placed lines refused i d faults longer below so_far long grown =
     subst (λ k. take k refused ≡ take i refused ++ r ∷ []) one (take-suc refused i d below) in (
       long ∙ so_far.0,
       λ place within.
-      let inside : place < length faults = omega (arith, within, so_far.0) in
-      ap (λ fs. held_at fs place) grown ∙ held_with faults r place inside
-      ∙ ap (λ f. first_of f (here place r)) (so_far.1 place within)
-      ∙ sym (fault_behind place (take i refused) r) ∙ ap (λ rs. fault_at rs place) (sym next),
+          let inside : place < length faults = omega (arith, within, so_far.0) in
+          ap (λ fs. held_at fs place) grown ∙ held_with faults r place inside
+          ∙ ap (λ f. first_of f (here place r)) (so_far.1 place within)
+          ∙ sym (fault_behind place (take i refused) r) ∙ ap (λ rs. fault_at rs place) (sym next),
     )
 
 -- ---- what is said

@@ -44,11 +44,7 @@ impl<L: Label> Finished<L> {
     }
 
     /// With one seat more, and all receipts of its calls.
-    pub fn with(
-        self,
-        seat: Seat<L>,
-        receipts: Vec<Receipt>,
-    ) -> Result<Finished<L>, AllocError>
+    pub fn with(self, seat: Seat<L>, receipts: Vec<Receipt>) -> Result<Finished<L>, AllocError>
         requires counted { seat ≡ vec_len receipts }
         requires given { AreListsAt L.config L.seed self.lists.items }
         requires more { AreGivenSince L.config L.seed 0 receipts.items }

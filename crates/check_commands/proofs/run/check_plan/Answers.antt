@@ -10,8 +10,13 @@ returns-clause-ok g c =
     let same : plan_value c.in_ok-plan.plan ≡ plan_with c.args.script.now (plan_value c.args.plan) =
     search rules in
     let played = c.in_ok-played.played in
-    let told = rw (c.deref.ensures.value, c.deref-2.ensures.value, c.deref-3.ensures.value, c.deref-4.ensures.value,
-    c.as_bytes.ensures.value) at c.in_ok-said.ensures in
+    let told = rw (
+      c.deref.ensures.value,
+      c.deref-2.ensures.value,
+      c.deref-3.ensures.value,
+      c.deref-4.ensures.value,
+      c.as_bytes.ensures.value,
+    ) at c.in_ok-said.ensures in
     record {
       plan = plan_value c.args.plan;
       vain = c.in_ok-vain.vain.items;
