@@ -1,17 +1,12 @@
--- What a script of threads that is checked comes to.
-use Rattle.std.specs.Prelude.{◌≡◌, ℕ, ◌+◌, ◌^◌, Bool, List, [], ◌∷◌, ◌++◌, nat_lt, slice_get, if◌then◌else◌, codes, IfOk, Option, Some, None, Ok}
-use Rattle.audit.specs.Receipts.{Lists}
-use Rattle.audit.specs.Traces.{Traces}
+-- The plan that is played of a script of threads that is checked, and what is said of the lines that fail.
+use Rattle.std.specs.Prelude.{◌≡◌, ℕ, ◌+◌, ◌^◌, Bool, List, [], ◌++◌, nat_lt, slice_get, if◌then◌else◌, codes, IfOk, Option, Some, None}
 use Rattle.scripts.specs.Checks.{checked_text}
-use Rattle.thread_plans.specs.BadLines.{bad_text}
 use Rattle.thread_plans.specs.declared.plan.RoundKind.{RoundKind}
 use Rattle.thread_plans.specs.declared.plan.RoundKind.TheVariants as kinds
 use Rattle.thread_plans.specs.declared.plan.Rounds.{Rounds}
 use Rattle.thread_plans.specs.Plans.{PlanValue, plan_in}
-use Rattle.thread_warnings.specs.Runs.{RunFaults}
+use Rattle.thread_warnings.specs.Runs.{Lists, RunFaults}
 use Rattle.thread_warnings.specs.Warnings.{warned_text}
-use Rattle.thread_scripts.specs.Outputs.{IsJudged}
-use Rattle.thread_scripts.specs.Plays.{AreListsOf, AreTracesOf}
 use Rattle.thread_checks.specs.declared.views.View.TheVariants as views
 use Rattle.thread_checks.specs.Scans.{scan_text}
 use Rattle.thread_checks.specs.Views.{all_rounds, view_of}
@@ -68,22 +63,3 @@ failed_text script plan lists faults vain printed explained =
 -- a script's plan has so many nodes, of which each accepts so many calls
 abbrev pub IsSizeOf : List ℕ → ℕ → ℕ → Type 0
 IsSizeOf script nodes cap = IfOk (plan_in (plain_text script)) (λ plan. (plan.nodes ≡ nodes) × (plan.cap ≡ cap))
-
--- the run of a script that is checked came to these traces and receipts, refused calls so, prints this, and
--- this is said of it
-pub record IsChecked (script : List ℕ) (traces : Traces) (lists : Lists) (faults : RunFaults) (text said : List ℕ)
-    : Type 0 where
-  pub plan : PlanValue
-  pub vain : List ℕ
-  pub explained : Bool
-  pub read : plan_in (plain_text script) ≡ Ok plan
-  pub legal : AreTracesOf (plan_with script plan) traces
-  pub given : AreListsOf (plan_with script plan) lists faults
-  pub judged : IsJudged (plan_with script plan) traces lists text explained
-  pub failed : said ≡ failed_text script (plan_with script plan) lists faults vain text explained
-
--- this is so of what it prints, and this of what is said of it
-abbrev pub ChecksSaying : List ℕ → (List ℕ → Type 0) → (List ℕ → Type 0) → Type 0
-ChecksSaying script written told =
-    (traces : Traces) × (lists : Lists) × (faults : RunFaults) × (text : List ℕ) × (said : List ℕ)
-    × IsChecked script traces lists faults text said × written text × told said

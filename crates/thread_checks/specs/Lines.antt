@@ -1,5 +1,5 @@
 -- The lines that only a script of threads that is checked has.
-use Rattle.std.specs.Prelude.{ℕ, ◌==◌, Bool, not, ◌&&◌, ◌||◌, List, [], ◌∷◌, ◌++◌, drop, is_some, length, nat_lt, if◌then◌else◌, Option, Some, None, codes}
+use Rattle.std.specs.Prelude.{ℕ, ◌==◌, Bool, not, ◌&&◌, ◌||◌, List, is_some, length, nat_lt, if◌then◌else◌, Option, Some, None, codes}
 use Rattle.std.specs.List.{position_or_len, before_first, after_first}
 use Rattle.std.specs.Str.{bytes_eq}
 use Rattle.decimals.specs.Decimals.{amount_of, byte_of, word_of}

@@ -5,7 +5,7 @@ use Rattle.std.specs.Str.{bytes_eq}
 use Rattle.scripts.specs.Checks.{shown}
 use Rattle.scripts.specs.Faults.{missing_said, said_of}
 use Rattle.streams.specs.Fields.{lines_of}
-use Rattle.thread_checks.specs.Lines.{await_in, first_in, is_await, is_expect, is_spread, is_start_call, is_worker}
+use Rattle.thread_checks.specs.Lines.{await_in, first_in, is_await, is_expect, is_spread, is_start_call}
 use Rattle.thread_checks.specs.Views.{by_lines, worked_after}
 
 -- between two lines: the number of the next one, and whether a worker was met, rights were spread, and rounds before the

@@ -4,7 +4,7 @@ use Rattle.scripts.specs.Checks.{begins}
 use Rattle.streams.specs.Fields.{lines_of, output_line}
 use Rattle.thread_checks.specs.declared.views.View.{View}
 use Rattle.thread_checks.specs.declared.views.View.TheVariants as views
-use Rattle.thread_checks.specs.Lines.{is_expect, is_own, is_spread, is_start_call, is_worker, rounds_in, share_in}
+use Rattle.thread_checks.specs.Lines.{is_expect, is_own, is_start_call, is_worker, rounds_in, share_in}
 
 -- of lines, in their order, by a state that goes from line to line
 abbrev pub by_lines : {S : Type 0} → (S → List ℕ → List ℕ) → (S → List ℕ → S) → S → List (List ℕ) → List ℕ

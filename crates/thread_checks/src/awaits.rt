@@ -6,7 +6,7 @@ use decimals::{byte, number};
 use std::alloc::{AllocError, Global};
 use streams::{cut, text_of};
 use thread_plans::call_in_line;
-use thread_scripts::{Await, Waits};
+use thread_workers::{Await, Waits};
 
 /// The most nodes of a cluster.
 const MOST_NODES: usize = 32;
@@ -83,7 +83,7 @@ impl Place {
 }
 
 /// The waits of a script, by line.
-pub(crate) fn awaits_in(alloc: Global, script: &[u8]) -> Result<Vec<Await>, AllocError> {
+pub fn awaits_in(alloc: Global, script: &[u8]) -> Result<Vec<Await>, AllocError> {
     let mut place = Place {
         line: 1,
         node: 0,
@@ -101,8 +101,8 @@ pub(crate) fn awaits_in(alloc: Global, script: &[u8]) -> Result<Vec<Await>, Allo
     Ok(awaits)
 }
 
-/// The lines of those that were in vain.
-pub(crate) fn in_vain(alloc: Global, waits: &Waits) -> Result<Vec<u32>, AllocError> {
+/// The numbers of the lines that waited in vain.
+pub fn in_vain(alloc: Global, waits: &Waits) -> Result<Vec<u32>, AllocError> {
     let mut vain = Vec::new(alloc);
     for wait in waits.awaits() {
         if wait.is_in_vain() {

@@ -6,10 +6,12 @@ ghost use Rattle.thread_checks.specs.Checked.{failed_text, without_starts};
 
 use crate::scan::scan_text;
 use crate::views::{View, view_of};
+use node_calls::{NodeFault, Receipt};
 use scripts::checked_text_of;
 use std::alloc::{AllocError, Global};
 use streams::MOST_BYTES;
-use thread_scripts::{Played, ThreadPlan, warnings_of};
+use thread_plans::ThreadPlan;
+use thread_warnings::warned_text;
 
 fn without_starts<'a>(alloc: Global, plan: ThreadPlan<'a>) -> ThreadPlan<'a>
     ensures { plan_value result ≡ without_starts (plan_value plan.entry) }
@@ -30,29 +32,31 @@ fn without_starts<'a>(alloc: Global, plan: ThreadPlan<'a>) -> ThreadPlan<'a>
     }
 }
 
-/// What is said of the lines of a script that fail, whose plan came to this, where waits in the lines of
-/// these numbers were in vain, this was printed and the audit says yes or no. Nothing, where none fails.
+/// What is said of the lines of a script that fail, where the plan that is played of it gave these lists of
+/// receipts and refused calls so, before the workers and of workers, waits in the lines of these numbers
+/// were in vain, this was printed and the audit says yes or no. Nothing, where none fails.
 ///
 /// The lines before the workers are answered as those of a script of calls that is checked.
 pub fn failures_of(
     alloc: Global,
     script: &[u8],
     plan: ThreadPlan<'_>,
-    played: &Played,
+    lists: &[Vec<Receipt>],
+    start_faults: &[(usize, NodeFault)],
+    faults: &[NodeFault],
     vain: &[u32],
     printed: &[u8],
     yes: bool,
 ) -> Result<Vec<u8>, AllocError>
     requires { length script.now ≤ MOST_BYTES }
     ensures { IfOk result (λ said. said.items ≡ failed_text script.now (plan_value plan.entry)
-        played.now.lists.items (played.now.start_faults.items, played.now.faults.items)
-        vain.now printed.now yes) }
+        lists.now (start_faults.now, faults.now) vain.now printed.now yes) }
 {
     let starts = view_of(alloc, View::Starts, script)?;
     let mut said = checked_text_of(alloc, &starts)?;
     let workers = view_of(alloc, View::Workers, script)?;
     let plan = without_starts(alloc, plan);
-    let warned = warnings_of(alloc, &workers, &plan, played, yes)?;
+    let warned = warned_text(alloc, &workers, &plan, lists, start_faults, faults, yes)?;
     said.extend_from_slice(&warned)?;
     let scanned = scan_text(alloc, script, vain, printed)?;
     said.extend_from_slice(&scanned)?;

@@ -1,13 +1,14 @@
-//! Scripts of threads that are checked: the lines that they have besides, and what is said of the lines
-//! that fail.
+//! Scripts of threads that are checked: the lines that they have besides, the plan that is played, and what
+//! is said of the lines that fail.
 #![tactic(auto)]
 
 mod awaits;
 mod failed;
 mod lines;
-mod run;
+mod plans;
 mod scan;
 mod views;
 
+pub use awaits::{awaits_in, in_vain};
 pub use failed::failures_of;
-pub use run::{CheckedRun, play_checked};
+pub use plans::{first_rounds, plain_text_of, plan_with};

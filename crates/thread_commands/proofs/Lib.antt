@@ -1,4 +1,2 @@
-mod Parts
 pub mod Recorded
 pub mod Warned
-pub mod CheckedRuns

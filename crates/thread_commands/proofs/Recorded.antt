@@ -1,6 +1,6 @@
 -- What a recorded run writes, where its reader tells its bytes.
-use Rattle.std.proofs.Common.{◌≡◌, List, ℕ, Option, Some, None, Result, Ok, Err, refl, subst, ◌∙◌, inl, inr}
-use Rattle.std.specs.Prelude.{◌⊎◌, IfErr, IfSome, OnOk}
+use Rattle.std.proofs.Common.{◌≡◌, List, ℕ, Option, Result, Ok, Err, refl, ◌∙◌, inl, inr}
+use Rattle.std.specs.Prelude.{◌⊎◌, IfErr, OnOk}
 use Rattle.streams.specs.Streams.{Writes}
 use Rattle.streams.specs.declared.fault.ScriptFault.{ScriptFault}
 use Rattle.streams.specs.declared.fault.ScriptFault.TheVariants as faults
@@ -46,18 +46,6 @@ played Keeps contents old new script plan said (Ok done) planned h =
     let comes : ComesToSaying script h.text said =
     (plan, h.traces, h.lists, h.faults, h.explained, planned, h.legal, h.given, h.judged, h.warned) in
     (h.text, said, comes, h.printed, refl)
-
--- ---- what holds of the script that was read holds of the input
-
-pub in_input : (P : List ℕ → Type 0) (script : List ℕ) (input : Option (List ℕ))
-    → IfSome input (λ bytes. script ≡ bytes) → P script → IfSome input P
-in_input P script None same h = tt
-in_input P script (Some bytes) same h = subst P same h
-
-pub on_input : {T E : Type 0} (P : List ℕ → Type 0) (script : List ℕ) (result : Result T E) (input : Option (List ℕ))
-    → IfSome input (λ bytes. script ≡ bytes) → OnOk result (P script) → OnOk result (IfSome input P)
-on_input P script (Err fault) input same h = tt
-on_input P script (Ok done) input same h = in_input P script input same h
 
 -- ---- a fault of a run is of no line
 

@@ -1,6 +1,6 @@
 -- What a run of a script of threads comes to and says, by how the program ends.
-use Rattle.std.proofs.Common.{◌≡◌, ℕ, true, false, List, [], Option, Some, None, Result, Ok, Err, refl, subst, ap, ◌∙◌, inl, inr}
-use Rattle.std.specs.Prelude.{◌≢◌, ◌↔◌, IfErr, IfOk, IfSome, IsErr, IsOk, OnOk, Vec}
+use Rattle.std.proofs.Common.{◌≡◌, ◌<◌, ℕ, length, true, false, List, [], Option, Some, None, Result, Ok, Err, refl, subst, inl, inr}
+use Rattle.std.specs.Prelude.{◌≢◌, ◌↔◌, ◌⊎◌, IfErr, IfOk, IfSome, IsErr, IsOk, OnOk, Vec}
 use Rattle.std.specs.declared.alloc.Global.{Global}
 use Rattle.std.specs.Process.{exit_status}
 use Rattle.std.specs.declared.process.ExitCode.{ExitCode}
@@ -9,6 +9,7 @@ use Rattle.streams.specs.declared.fault.ScriptFault.TheVariants as faults
 use Rattle.thread_plans.specs.BadLines.{bad_text}
 use Rattle.thread_scripts.specs.Outputs.{PlaysSaying, PlaysTo}
 use Rattle.thread_scripts.proofs.Runs.{plays_of_saying}
+use Rattle.thread_warnings.proofs.Inputs.{items_of}
 use Rattle.commands.specs.Statuses.{OnStatus}
 use Rattle.thread_commands.specs.Said.{SaysOrNothing}
 
@@ -46,9 +47,6 @@ pub on_refused_saying : {T E F : Type 0} (result : Result ExitCode E) (run : Res
 on_refused_saying (Err e) run said fact h s k = tt
 on_refused_saying (Ok code) run said fact h s k = λ z. k (h.0 z) s
 
-pub items_of : (said was : Vec ℕ Global) → said ≡ was → was.items ≡ [] → said.items ≡ []
-items_of said was same none = ap (λ (v : Vec ℕ Global). v.items) same ∙ none
-
 -- what is said of a script that is refused: what was wanted of its bad lines, or nothing
 pub said_where_refused : {T : Type 0} (run : Result T ScriptFault) (warnings : List ℕ → Type 0)
     (said was : Vec ℕ Global) (input : Option (List ℕ)) → was.items ≡ [] →
@@ -68,3 +66,27 @@ said_where_refused (Err faults.WriteFailed) warnings said was (Some bytes) none 
     inr (subst warnings (items_of said was (other (λ line e. cc)) none) s)
 said_where_refused (Err faults.OutOfMemory) warnings said was (Some bytes) none bad other refused s =
     inr (subst warnings (items_of said was (other (λ line e. cc)) none) s)
+
+-- ---- a script that is too long is refused
+
+refused_at : {T E : Type 0} (result : Result ExitCode E) (run : Result T ScriptFault) (fault : ScriptFault) →
+    IfOk result (λ code. (exit_status code ≡ 1) ↔ IsErr run) → run ≡ Err fault →
+    IfOk result (λ code. exit_status code ≡ 1)
+refused_at (Err e) run fault refused is = tt
+refused_at (Ok code) (Ok x) fault refused is = cc
+refused_at (Ok code) (Err e) fault refused is = refused.1 refl
+
+pub refused_too_long : {T E : Type 0} (result : Result ExitCode E) (run : Result T ScriptFault) (failed : Type 0)
+    (input : Option (List ℕ)) (most : ℕ) → IfOk result (λ code. (exit_status code ≡ 1) ↔ IsErr run) →
+    (run ≡ Err faults.ReadFailed) ↔ failed →
+    IfSome input (λ bytes. most < length bytes →
+    (run ≡ Err faults.TooLong) ⊎ failed ⊎ (run ≡ Err faults.OutOfMemory)) →
+    IfSome input (λ bytes. most < length bytes → IfOk result (λ code. exit_status code ≡ 1))
+refused_too_long result run failed None most refused reads h = tt
+refused_too_long result run failed (Some bytes) most refused reads h = λ long. by_fault (h long)
+  where
+    by_fault : (run ≡ Err faults.TooLong) ⊎ failed ⊎ (run ≡ Err faults.OutOfMemory) →
+        IfOk result (λ code. exit_status code ≡ 1)
+    by_fault (inl is) = refused_at result run faults.TooLong refused is
+    by_fault (inr (inl met)) = refused_at result run faults.ReadFailed refused (reads.1 met)
+    by_fault (inr (inr is)) = refused_at result run faults.OutOfMemory refused is

@@ -1,3 +1,2 @@
 pub mod Recordings
 pub mod Said
-pub mod Checked

@@ -1,122 +1,28 @@
 //! Parts: a script of threads of which the record of each node is kept.
 
-ghost use Rattle.std.specs.Prelude.{◌≡◌, ◌≢◌, ◌↔◌, ◌<◌, ◌≤◌, ◌⊎◌, ℕ, length, true, false, Err};
-ghost use Rattle.std.specs.Prelude.{All, IfErr, IfOk, OnErr, OnOk};
+ghost use Rattle.std.specs.Prelude.{◌≡◌, ◌≢◌, ◌≤◌, ◌⊎◌, ℕ, length, true, false, Err};
+ghost use Rattle.std.specs.Prelude.{All, IfErr, OnErr, OnOk};
 ghost use Rattle.streams.specs.declared.fault.ScriptFault.TheVariants.{BadLine, OutOfMemory};
 ghost use Rattle.streams.specs.declared.fault.ScriptFault.TheVariants.{ReadFailed, TooLong};
 ghost use Rattle.streams.specs.declared.fault.ScriptFault.TheVariants.{WriteFailed};
 ghost use Rattle.streams.specs.Streams.{Writes};
 ghost use Rattle.streams.specs.Watched.{has_failed, has_unflushed};
+ghost use Rattle.drill_files.specs.Kept.{KeepsParts};
 ghost use Rattle.thread_scripts.specs.Outputs.{PlaysSaying};
 ghost use Rattle.thread_plans.specs.BadLines.{bad_text};
 ghost use Rattle.thread_plans.specs.Plans.{plan_in, plan_value};
-ghost use Rattle.drills.specs.Parts.{part_text};
-ghost use Rattle.thread_commands.specs.Recordings.{IsKept, KeepsParts, head_at};
+ghost use Rattle.thread_commands.specs.Recordings.{IsKept};
 
-use crate::recording::{file_at, is_kept, told_of, unwritten};
-use crate::warning::write_saying;
-use drills::{PartHead, write_part};
-use packed_trace::Trace;
-use std::alloc::{AllocError, Global};
-use std::fs;
+use crate::recording::told_of;
+use drill_files::{keep_parts, part_files};
+use std::alloc::Global;
 use std::fs::Files;
-use std::io::{BufWriter, Write};
+use std::io::Write;
 use std::sync::Wait;
 use std::thread::Threads;
 use streams::{MOST_BYTES, ScriptFault, Watched};
-use thread_scripts::{Size, ThreadPlan, play, read_plan_saying};
-
-/// The most nodes of a cluster.
-const MOST_NODES: u8 = 32;
-
-// Where the part of a node is kept.
-fn part_path(alloc: Global, folder: &str, node: u8) -> Result<String, AllocError> {
-    format!(in alloc; "{folder}/part{node}")
-}
-
-/// The first file that is there and may have a part, of this run or of another one.
-pub fn kept_part<R: Files>(
-    rt: &R,
-    alloc: Global,
-    folder: &str,
-) -> Result<Option<String>, AllocError> {
-    for node in 0..MOST_NODES {
-        let path = part_path(alloc, folder, node)?;
-        if is_kept(rt, &path) {
-            return Ok(Some(path));
-        }
-    }
-    Ok(None)
-}
-
-/// Writes to the files of the parts, one of each node, in a folder that is made where it isn't there.
-pub fn part_files<R: Files>(
-    rt: &R,
-    alloc: Global,
-    folder: &str,
-    nodes: u8,
-) -> Result<Vec<Watched<BufWriter<R::File>>>, ScriptFault>
-    ensures number { IfOk result (λ files. length files.items ≡ nodes) }
-    ensures sound { IfOk result (λ files. All (λ file. has_failed file ≡ false) files.items) }
-    ensures only { IfErr result (λ fault. (fault ≡ WriteFailed) ⊎ (fault ≡ OutOfMemory)) }
-{
-    // Where it can't be made, no file in it can be.
-    let _made = fs::create_dir(rt, folder);
-    let mut files = Vec::new(alloc);
-    for node in 0..nodes {
-        let file = file_at(rt, alloc, &part_path(alloc, folder, node)?)?;
-        files.reserve(1)?;
-        files.push_reserved(file);
-    }
-    Ok(files)
-}
-
-// Writes the part of a node of a run.
-fn keep_part<D: Write>(
-    alloc: Global,
-    size: Size,
-    node: u8,
-    trace: &Trace,
-    file: &mut Watched<D>,
-) -> Result<(), ScriptFault>
-    requires { has_failed file.old ≡ false }
-    ensures kept { OnOk result (Writes D.contents file.old file.new
-        (part_text (head_at size.nodes size.trace_cap node) trace.now.calls)) }
-    ensures flushed { OnOk result (has_unflushed file.new ≡ false) }
-    ensures only { IfErr result (λ fault. (fault ≡ WriteFailed) ⊎ (fault ≡ OutOfMemory)) }
-{
-    let head = PartHead {
-        node,
-        nodes: size.nodes,
-        cap: size.trace_cap as u64,
-        run: String::new(alloc),
-    };
-    match write_part(alloc, &head, trace, file) {
-        Ok(()) => Ok(()),
-        Err(fault) => Err(unwritten(fault)),
-    }
-}
-
-/// Writes the part of each node of a run.
-pub fn keep_parts<D: Write>(
-    alloc: Global,
-    size: Size,
-    traces: &[Trace],
-    files: &mut [Watched<D>],
-) -> Result<(), ScriptFault>
-    requires traces { length traces.now ≡ size.nodes }
-    requires files { length files.old ≡ size.nodes }
-    requires sound { All (λ file. has_failed file ≡ false) files.old }
-    ensures kept { OnOk result (KeepsParts D.contents size.nodes size.trace_cap traces.now
-        files.old files.new) }
-    ensures only { IfErr result (λ fault. (fault ≡ WriteFailed) ⊎ (fault ≡ OutOfMemory)) }
-{
-    for node in 0..size.nodes {
-        let at = usize::from(node);
-        keep_part(alloc, size, node, &traces[at], &mut files[at])?;
-    }
-    Ok(())
-}
+use thread_scripts::{ThreadPlan, play};
+use thread_warnings::{read_plan_saying, write_saying};
 
 // Plays the plan of a script, keeps the part of each node, and then writes what it prints and sets what
 // is said to what it is warned of.

@@ -1,59 +1,27 @@
 //! Recorded drills: a script of threads whose drill is kept.
 
-ghost use Rattle.std.specs.Prelude.{◌≡◌, ◌≢◌, ◌↔◌, ◌<◌, ◌≤◌, ◌⊎◌, ℕ, length, true, false, Err};
+ghost use Rattle.std.specs.Prelude.{◌≡◌, ◌≢◌, ◌↔◌, ◌≤◌, ◌⊎◌, ℕ, length, true, false, Err};
 ghost use Rattle.std.specs.Prelude.{string_bytes, vec_len, IfErr, IfOk, OnErr, OnOk};
 ghost use Rattle.streams.specs.declared.fault.ScriptFault.TheVariants.{BadLine, OutOfMemory};
 ghost use Rattle.streams.specs.declared.fault.ScriptFault.TheVariants.{ReadFailed, TooLong};
 ghost use Rattle.streams.specs.declared.fault.ScriptFault.TheVariants.{WriteFailed};
 ghost use Rattle.streams.specs.Streams.{Writes};
 ghost use Rattle.streams.specs.Watched.{has_failed, has_unflushed};
+ghost use Rattle.drill_files.specs.Kept.{KeepsDrill};
 ghost use Rattle.thread_scripts.specs.Outputs.{PlaysSaying};
 ghost use Rattle.thread_plans.specs.BadLines.{bad_text};
 ghost use Rattle.thread_plans.specs.Plans.{plan_in, plan_value};
-ghost use Rattle.thread_commands.specs.Recordings.{IsKept, IsTold, KeepsDrill};
+ghost use Rattle.thread_commands.specs.Recordings.{IsKept, IsTold};
 
-use crate::warning::write_saying;
-use drills::{DrillFault, write_drill};
+use drill_files::{file_at, keep_drill};
 use std::alloc::{AllocError, Global};
-use std::fs;
 use std::fs::Files;
-use std::io::{BufWriter, Write};
+use std::io::Write;
 use std::sync::Wait;
 use std::thread::Threads;
 use streams::{MOST_BYTES, ScriptFault, Watched};
-use thread_scripts::{Played, ThreadPlan, judged_output_of, play, read_plan_saying, warnings_of};
-
-/// Why a drill wasn't written, as scripts tell it.
-pub fn unwritten(fault: DrillFault) -> ScriptFault
-    ensures only { (result ≡ WriteFailed) ⊎ (result ≡ OutOfMemory) }
-    ensures write_failed { (result ≡ WriteFailed) ↔ (fault ≡ DrillFault.WriteFailed) }
-{
-    match fault {
-        DrillFault::WriteFailed => ScriptFault::WriteFailed,
-        DrillFault::ReadFailed | DrillFault::OutOfMemory | DrillFault::BadLine { .. } => {
-            ScriptFault::OutOfMemory
-        }
-    }
-}
-
-/// Writes the drill of a run.
-pub fn keep_drill<D: Write>(
-    alloc: Global,
-    played: &Played,
-    recorder: &mut Watched<D>,
-) -> Result<(), ScriptFault>
-    requires { has_failed recorder.old ≡ false }
-    ensures kept { OnOk result (KeepsDrill D.contents recorder.old recorder.new
-        played.now.traces.items played.now.lists.items) }
-    ensures flushed { OnOk result (has_unflushed recorder.new ≡ false) }
-    ensures write_failed { (result ≡ Err WriteFailed) ↔ (has_failed recorder.new ≡ true) }
-    ensures only { IfErr result (λ fault. (fault ≡ WriteFailed) ⊎ (fault ≡ OutOfMemory)) }
-{
-    match write_drill(alloc, &played.traces, &played.lists, recorder) {
-        Ok(()) => Ok(()),
-        Err(fault) => Err(unwritten(fault)),
-    }
-}
+use thread_scripts::{Played, ThreadPlan, judged_output_of, play, warnings_of};
+use thread_warnings::{read_plan_saying, write_saying};
 
 /// What a run of a script's plan prints, and what the script is warned of.
 pub fn told_of(
@@ -100,35 +68,9 @@ fn play_recorded<R: Threads + Wait + Sync, D: Write, O: Write>(
     ensures unwritten { result ≡ Err OutOfMemory → writer.new ≡ writer.old }
 {
     let played = play(rt, alloc, plan)?;
-    keep_drill(alloc, &played, recorder)?;
+    keep_drill(alloc, &played.traces, &played.lists, recorder)?;
     let (text, warned) = told_of(alloc, script, plan, &played)?;
     write_saying(writer, text.as_bytes(), warned, said)
-}
-
-/// Writes to a file, from its beginning on.
-pub fn file_at<R: Files>(
-    rt: &R,
-    alloc: Global,
-    path: &str,
-) -> Result<Watched<BufWriter<R::File>>, ScriptFault>
-    ensures sound { IfOk result (λ file. has_failed file ≡ false) }
-    ensures only { IfErr result (λ fault. (fault ≡ WriteFailed) ⊎ (fault ≡ OutOfMemory)) }
-{
-    let Ok(file) = fs::create(rt, path) else {
-        return Err(ScriptFault::WriteFailed);
-    };
-    let Ok(file) = BufWriter::new(alloc, file) else {
-        return Err(ScriptFault::OutOfMemory);
-    };
-    Ok(Watched::new(file))
-}
-
-/// Whether a file is there that holds what is written, unlike a pipe or a device.
-pub fn is_kept<R: Files>(rt: &R, path: &str) -> bool {
-    match fs::metadata(rt, path) {
-        Ok(there) => there.is_file(),
-        Err(_) => false,
-    }
 }
 
 /// Runs a script of threads, keeps its drill in a file, and writes what it prints; and sets what is said

@@ -1,6 +1,6 @@
 //! Scripts of threads that are run, and kept where that is asked for.
 
-ghost use Rattle.std.specs.Prelude.{◌≡◌, ◌<◌, ◌⊎◌, true, false, length, IfOk};
+ghost use Rattle.std.specs.Prelude.{◌≡◌, ◌↔◌, ◌<◌, ◌⊎◌, true, false, length, IfOk, IsErr, IsOk};
 ghost use Rattle.std.specs.Process.{exit_status};
 ghost use Rattle.streams.specs.Streams.{IfInput, Writes};
 ghost use Rattle.streams.specs.Watched.{has_failed, has_unflushed};
@@ -9,16 +9,40 @@ ghost use Rattle.thread_scripts.specs.Outputs.{PlaysSaying, PlaysTo};
 ghost use Rattle.commands.specs.Statuses.{HasStatus, OnStatus};
 ghost use Rattle.thread_commands.specs.Said.{SaysOrNothing};
 
-use crate::checking::{in_the_way, refuse_kept, run_saying};
-use crate::warning::finish_threads;
+use crate::saying::run_saying;
 use command_line::ThreadOptions;
+use commands::{finish_script, refuse, say};
+use drill_files::in_the_way;
 use std::alloc::AllocGlobal;
 use std::fs::Files;
 use std::io::{Read, Write};
 use std::process::ExitCode;
 use std::sync::Wait;
 use std::thread::Threads;
-use streams::{MOST_BYTES, Watched};
+use streams::{MOST_BYTES, ScriptFault, Watched};
+
+// After a script of threads was run: prints why it was refused, if it was, and then what goes wrong in
+// it, unless that isn't wanted. That this can't be written is no fault.
+fn finish_threads<R: Eprint, E: Write>(
+    rt: &R,
+    run: Result<(), ScriptFault>,
+    quiet: bool,
+    said: &[u8],
+    errors: &mut Watched<E>,
+) -> anyhow::Result<ExitCode>
+    requires { has_failed errors.old ≡ false }
+    ensures done { IfOk result (λ code. exit_status code ≡ 0 ↔ IsOk run) }
+    ensures refused { IfOk result (λ code. exit_status code ≡ 1 ↔ IsErr run) }
+    ensures said { quiet ≡ false → IfOk result (λ code. has_failed errors.new ≡ false →
+        Writes E.contents errors.old errors.new said.now) }
+    ensures quiet { quiet ≡ true → errors.new ≡ errors.old }
+{
+    let code = finish_script(rt, run, "")?;
+    if !quiet {
+        say(errors, said);
+    }
+    Ok(code)
+}
 
 /// Runs the script of threads that a reader gives, may keep its drill, in files that are there only where
 /// that is wanted, and may say what goes wrong in it.
@@ -56,8 +80,8 @@ where
         MOST_BYTES < length input → HasStatus result 1) }
     ensures status { IfOk result (λ code. (exit_status code ≡ 0) ⊎ (exit_status code ≡ 1)) }
 {
-    if let Some(path) = in_the_way(rt, options)? {
-        return refuse_kept(rt, &path, options);
+    if let Some(advice) = in_the_way(rt, options)? {
+        return refuse(rt, ScriptFault::WriteFailed, &advice);
     }
     let mut said = Vec::new(rt.alloc());
     let run = run_saying(rt, options, reader, writer, &mut said);

@@ -15,8 +15,8 @@ use crate::wanted::{wanted, wanted_at_end, wanted_in};
 use std::alloc::{AllocError, Global};
 use streams::{MOST_BYTES, is_skipped};
 
-/// The most bad lines that are named.
-const MOST_NAMED: u32 = 20;
+/// The most lines of a kind that are named in what is said of a script.
+pub const MOST_NAMED: u32 = 20;
 
 /// Lines that are read in turn, and what was said of those that are bad.
 #[derive(Drop)]

@@ -1,11 +1,8 @@
-pub mod LineAsks
 pub mod Runs
 pub mod Numbered
 pub mod LegalRuns
-pub mod Made
 pub mod NodeLists
-pub mod Seats
 pub mod StartLines
 pub mod Started
 pub mod Counted
-pub mod Faults
+pub mod Wires

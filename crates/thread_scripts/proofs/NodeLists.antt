@@ -1,70 +1,50 @@
 -- The lists of a node's receipts, and those of all nodes.
-use Rattle.std.proofs.Common.{◌≡◌, ◌∙◌, ℕ, ◌+◌, false, List, [], ◌∷◌, ◌++◌, length, length-append, map, ap, sym, refl, subst, append_assoc, Some, None, arith}
-use Rattle.std.specs.Prelude.{All, Vec, Result, Ok, IfOk}
+use Rattle.std.proofs.Common.{◌≡◌, ◌∙◌, ℕ, ◌+◌, List, [], ◌∷◌, ◌++◌, length, length-append, ap, sym, refl, subst, append_assoc, Some, None, arith}
+use Rattle.std.specs.Prelude.{Vec, Result, Ok, IfOk}
 use Rattle.std.specs.declared.alloc.AllocError.{AllocError}
 use Rattle.std.specs.declared.alloc.Global.{Global}
-use Rattle.std.specs.List.{AllZip, flat_map}
+use Rattle.std.specs.List.{flat_map}
 use Rattle.std.proofs.lemmas.Grind.{flat_map-append}
 use Rattle.std.proofs.lemmas.List.{append-nil}
 use Rattle.node_steps.specs.declared.config.Config.{Config}
 use Rattle.node_calls.specs.declared.fault.NodeFault.{NodeFault}
 use Rattle.node_calls.specs.declared.receipt.Receipt.{Receipt}
-use Rattle.node_calls.specs.Told.{ask_told}
-use Rattle.node_registry.specs.declared.workers.Done.{Done}
-use Rattle.node_registry.specs.declared.workers.Job.{Job}
 use Rattle.audit.specs.Receipts.{Lists}
 use Rattle.gossip.specs.Mailboxes.{Place}
 use Rattle.thread_plans.specs.declared.plan.Rounds.{Rounds}
 use Rattle.thread_plans.specs.Plans.{BlockValue, PlanValue}
 use Rattle.thread_warnings.specs.Runs.{RunFaults}
-use Rattle.thread_scripts.specs.Asks.{asks_of_block}
-use Rattle.thread_scripts.specs.Calls.{HandsBack, faults_told, lack_memory}
+use Rattle.thread_workers.specs.Workers.{AreOfWorkers}
 use Rattle.thread_scripts.specs.Gossips.{IsGossip}
-use Rattle.thread_scripts.specs.Plays.{AreListsBelow, AreOfNode, AreOfWork, Part, Worked, config_at, gossip_at}
-use Rattle.thread_scripts.proofs.Made.{faults_of_workers, lists_of_workers, of_blocks, worked_of}
+use Rattle.thread_scripts.specs.Plays.{AreListsBelow, AreOfNode, AreOfWork, Part, config_at, gossip_at}
 use Rattle.thread_scripts.proofs.Numbered.{AllFrom-push}
 
 -- workers alone
-pub of_workers : {L : Type 0} (config : Config) (seed : List ℕ) (blocks : List BlockValue) (jobs : List (Job L))
-    (dones : List (Done L)) (was lists : Lists) (faults : List NodeFault)
-    → map (λ (j : Job L). map ask_told j.asks.items) jobs ≡ map asks_of_block blocks
-    → AllZip (λ (j : Job L) (d : Done L). HandsBack config seed (map ask_told j.asks.items) d) jobs dones
-    → All (λ (d : Done L). lack_memory d.faults.items ≡ false) dones
-    → faults ≡ flat_map (λ (d : Done L). faults_told d) dones
-    → lists ≡ was ++ map (λ (d : Done L). d.receipts) dones → AreOfWork config seed blocks None was lists faults
-of_workers {L = L} config seed blocks jobs dones was lists faults same back memory why all =
-    let workers = map (λ (d : Done L). worked_of d) dones in record {
-      workers = workers;
-      gossiped = [];
-      all = all ∙ ap (λ ls. was ++ ls) (sym (lists_of_workers dones)
-          ∙ sym (append-nil (map (λ (w : Worked). w.0) workers)));
-      refused = why ∙ faults_of_workers config seed jobs dones back;
-      worked = of_blocks config seed blocks jobs dones same back memory;
-      told = refl;
-    }
+pub of_workers : (config : Config) (seed : List ℕ) (blocks : List BlockValue) (worked was lists : Lists)
+    (faults : List NodeFault) → AreOfWorkers config seed blocks worked faults → lists ≡ was ++ worked
+    → AreOfWork config seed blocks None was lists faults
+of_workers config seed blocks worked was lists faults made then = record {
+  worked = worked;
+  gossiped = [];
+  all = then ∙ ap (λ ls. was ++ ls) (sym (append-nil worked));
+  made = made;
+  told = refl;
+}
 
 -- workers, and gossip beside them
-pub of_both : {L : Type 0} (config : Config) (seed : List ℕ) (blocks : List BlockValue) (jobs : List (Job L))
-    (dones : List (Done L)) (gossip : Place × Rounds) (now : Place) (answer : Result (Vec Receipt Global) AllocError)
-    (receipts : Vec Receipt Global) (was between lists : Lists) (faults : List NodeFault)
-    → map (λ (j : Job L). map ask_told j.asks.items) jobs ≡ map asks_of_block blocks
-    → AllZip (λ (j : Job L) (d : Done L). HandsBack config seed (map ask_told j.asks.items) d) jobs dones
-    → All (λ (d : Done L). lack_memory d.faults.items ≡ false) dones
-    → faults ≡ flat_map (λ (d : Done L). faults_told d) dones
-    → between ≡ was ++ map (λ (d : Done L). d.receipts) dones → answer ≡ Ok receipts
-    → lists ≡ between ++ receipts ∷ [] → IfOk answer (λ rs. IsGossip config seed gossip now rs.items)
+pub of_both : (config : Config) (seed : List ℕ) (blocks : List BlockValue) (gossip : Place × Rounds) (now : Place)
+    (answer : Result (Vec Receipt Global) AllocError) (receipts : Vec Receipt Global) (worked was between lists : Lists)
+    (faults : List NodeFault) → AreOfWorkers config seed blocks worked faults → between ≡ was ++ worked
+    → answer ≡ Ok receipts → lists ≡ between ++ receipts ∷ []
+    → IfOk answer (λ rs. IsGossip config seed gossip now rs.items)
     → AreOfWork config seed blocks (Some gossip) was lists faults
-of_both {L = L} config seed blocks jobs dones gossip now answer receipts was between lists faults same back memory why
-    first done then is =
-    let given = map (λ (d : Done L). d.receipts) dones in record {
-      workers = map (λ (d : Done L). worked_of d) dones;
-      gossiped = receipts ∷ [];
-      all = then ∙ ap (λ ls. ls ++ receipts ∷ []) first ∙ append_assoc was given (receipts ∷ [])
-          ∙ ap (λ ls. was ++ (ls ++ receipts ∷ [])) (sym (lists_of_workers dones));
-      refused = why ∙ faults_of_workers config seed jobs dones back;
-      worked = of_blocks config seed blocks jobs dones same back memory;
-      told = (receipts, now, refl, rw done at is);
-    }
+of_both config seed blocks gossip now answer receipts worked was between lists faults made first done then is = record {
+  worked = worked;
+  gossiped = receipts ∷ [];
+  all = then ∙ ap (λ ls. ls ++ receipts ∷ []) first ∙ append_assoc was worked (receipts ∷ []);
+  made = made;
+  told = (receipts, now, refl, rw done at is);
+}
 
 -- the lists of no node
 pub below_none : (plan : PlanValue) → AreListsBelow plan 0 [] ([], [])

@@ -17,8 +17,9 @@ use Rattle.thread_plans.specs.declared.plan.StartLine.{StartLine}
 use Rattle.thread_plans.specs.Lines.{StartValue, spreads}
 use Rattle.thread_plans.specs.Plans.{start_line_value}
 use Rattle.thread_warnings.specs.Runs.{FaultList, StartFaults}
-use Rattle.thread_scripts.specs.Calls.{Adds, AreMade, AreOfLine, AreOfSpread, AreOfStarts, faults_of, placed, no_call, accepted, refused, no_line, next_line}
-use Rattle.thread_scripts.proofs.Made.{take_more_at}
+use Rattle.thread_workers.specs.Calls.{AreMade, faults_of, no_call, accepted, refused}
+use Rattle.thread_scripts.specs.Calls.{Adds, AreOfLine, AreOfSpread, AreOfStarts, placed, no_line, next_line}
+use Rattle.thread_workers.proofs.Made.{take_more_at}
 
 pub done_of : (e : Ended) → e ≢ ends.OutOfMemory → e ≡ ends.Done
 done_of ends.Done not = refl

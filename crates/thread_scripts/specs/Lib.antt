@@ -1,7 +1,5 @@
-pub mod Asks
 pub mod Calls
 pub mod Gossips
-pub mod Known
 pub mod Plays
 pub mod Laws
 pub mod Outputs

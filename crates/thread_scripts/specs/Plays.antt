@@ -1,6 +1,6 @@
 -- What the nodes of a plan come to.
-use Rattle.std.specs.Prelude.{◌≡◌, ℕ, ◌+◌, ◌==◌, List, [], ◌∷◌, ◌++◌, length, map, Option, All, Vec}
-use Rattle.std.specs.List.{AllZip, filter, flat_map}
+use Rattle.std.specs.Prelude.{◌≡◌, ℕ, ◌+◌, List, [], ◌∷◌, ◌++◌, length, map, Option, Vec}
+use Rattle.std.specs.List.{flat_map}
 use Rattle.std.specs.declared.alloc.Global.{Global}
 use Rattle.node_steps.specs.declared.config.Config.{Config}
 use Rattle.node_calls.specs.Asks.{call_from}
@@ -8,7 +8,6 @@ use Rattle.node_calls.specs.declared.receipt.Receipt.{Receipt}
 use Rattle.packed_trace.specs.Packed.{Packed}
 use Rattle.node_core.specs.Traces.{IsLegal}
 use Rattle.node_registry.specs.Cells.{IsDrawnBy}
-use Rattle.node_registry.specs.Receipts.{AreGivenSince}
 use Rattle.node_registry.specs.Refusals.{Refusal}
 use Rattle.audit.specs.Receipts.{Lists}
 use Rattle.audit.specs.Traces.{Traces}
@@ -16,8 +15,8 @@ use Rattle.gossip.specs.Mailboxes.{Place, new_place}
 use Rattle.thread_plans.specs.declared.plan.Rounds.{Rounds}
 use Rattle.thread_plans.specs.Plans.{BlockValue, PlanValue}
 use Rattle.thread_warnings.specs.Runs.{FaultList, RunFaults}
-use Rattle.thread_scripts.specs.Asks.{asks_of_block}
-use Rattle.thread_scripts.specs.Calls.{AreOfStarts, AreOfThread, faults_of}
+use Rattle.thread_workers.specs.Workers.{AreListsAt, AreOfWorkers, of_node}
+use Rattle.thread_scripts.specs.Calls.{AreOfStarts}
 use Rattle.thread_scripts.specs.Gossips.{AreOfGossip, gossip_over}
 
 -- a trace is legal for a node of this configuration, and its random draws are the first ones of this seed
@@ -38,35 +37,18 @@ config_at plan node = record { node = node; nodes = plan.nodes; trace_cap = plan
 abbrev pub AreTracesOf : PlanValue → Traces → Type 0
 AreTracesOf plan traces = AllFrom (λ node trace. IsTraceOf (config_at plan node) plan.seed trace) 0 traces
 
--- lists of receipts, each of which a node of this configuration and seed gave one seat from its first call on
-abbrev pub AreListsAt : Config → List ℕ → Lists → Type 0
-AreListsAt config seed lists = All (λ list. AreGivenSince config seed 0 list.items) lists
-
--- the blocks of a node
-abbrev pub blocks_of : PlanValue → ℕ → List BlockValue
-blocks_of plan node = filter (λ b. b.node == node) plan.blocks
-
 -- a node's wire before anything was sent, and the rounds of its gossip, if there is any
 abbrev pub gossip_at : PlanValue → ℕ → Option (Place × Rounds)
 gossip_at plan node = gossip_over (new_place plan.nodes node) plan.gossip
 
--- what a worker comes to: the list of its receipts, and what it was refused
-abbrev pub Worked : Type 0
-Worked = Vec Receipt Global × List Refusal
-
--- a thread came to this that was to do what a block asks
-abbrev pub IsOfBlock : Config → List ℕ → BlockValue → Worked → Type 0
-IsOfBlock config seed block worked = AreOfThread config seed (asks_of_block block) worked.0.items worked.1
-
--- Behind lists that were there before: a list for each of a node's blocks, in their order, and that of its gossip. The
--- faults say why calls of these blocks were refused
+-- Behind lists that were there before: those of a node's blocks, and that of its gossip. The faults say why calls of
+-- these blocks were refused
 pub record AreOfWork (config : Config) (seed : List ℕ) (blocks : List BlockValue) (gossip : Option (Place × Rounds))
     (was lists : Lists) (faults : FaultList) : Type 0 where
-  pub workers : List Worked
+  pub worked : Lists
   pub gossiped : Lists
-  pub all : lists ≡ was ++ (map (λ (w : Worked). w.0) workers ++ gossiped)
-  pub refused : faults ≡ flat_map (λ (w : Worked). faults_of w.1) workers
-  pub worked : AllZip (IsOfBlock config seed) blocks workers
+  pub all : lists ≡ was ++ (worked ++ gossiped)
+  pub made : AreOfWorkers config seed blocks worked faults
   pub told : AreOfGossip config seed gossip gossiped
 
 -- The lists of a node of a plan: of what it does before its workers, of each of its blocks, and of its gossip. It gave
@@ -77,7 +59,7 @@ pub record AreOfNode (config : Config) (seed : List ℕ) (plan : PlanValue) (gos
   pub refused : List Refusal
   pub given : AreListsAt config seed lists
   pub started : AreOfStarts config seed 0 plan.starts starts.items refused faults.0
-  pub beside : AreOfWork config seed (blocks_of plan config.node) gossip (starts ∷ []) lists faults.1
+  pub beside : AreOfWork config seed (of_node config.node plan.blocks) gossip (starts ∷ []) lists faults.1
 
 -- what a node comes to: its lists, and why calls were refused
 abbrev pub Part : Type 0

@@ -1,19 +1,17 @@
-//! Workers of a node, and its gossip beside them.
+//! The gossip of a node, and its workers beside it.
 
-ghost use Rattle.std.specs.Prelude.{◌≡◌, ◌≤◌, ◌<◌, ◌^◌, map, vec_len, All, IfOk, MatchResult};
-ghost use Rattle.std.specs.List.{AllZip};
-ghost use Rattle.node_calls.specs.Told.{ask_told};
+ghost use Rattle.std.specs.Prelude.{◌≡◌, ◌+◌, ◌++◌, ◌∷◌, [], ◌≤◌, ◌==◌, count_by, map, vec_len};
+ghost use Rattle.std.specs.Prelude.{All, IfOk, MatchResult, Ok};
 ghost use Rattle.node_registry.specs.Receipts.{AreGivenSince};
-ghost use Rattle.thread_scripts.specs.Calls.{HandsBack};
+ghost use Rattle.thread_plans.specs.Plans.{block_value};
+ghost use Rattle.thread_workers.specs.Workers.{AreListsAt, AreOfWorkers, of_node};
 ghost use Rattle.thread_scripts.specs.Gossips.{AreOfKind, IsGossip, count_or};
 
 use crate::rounds::do_rounds;
 use crate::steps::StepWire;
-use crate::turns::Turns;
-use crate::waits::Waits;
 use gossip::MailWire;
-use node_core::Receipt;
-use node_registry::{Done, Job, Label, Registry, Seat, run_workers};
+use node_core::{NodeFault, Receipt};
+use node_registry::{Label, Registry, Seat};
 use std::alloc::{AllocError, Global};
 use std::marker::PhantomData;
 use std::snapshot::Snapshot;
@@ -21,7 +19,8 @@ use std::sync::Wait;
 use std::sync::atomic::{AtomicBool, Ordering};
 use std::thread;
 use std::thread::{Promise, PromisedHandle, Scope, Threads};
-use thread_plans::Rounds;
+use thread_plans::{Block, Rounds};
+use thread_workers::{Finished, Waits, work};
 
 /// The gossip of a node: so many rounds over its wire.
 #[derive(Drop)]
@@ -40,11 +39,33 @@ pub(crate) struct Gossiped<L: Label> {
     ghost counted: { count_or receipts seat ≡ seat },
 }
 
-/// What workers and gossip came to beside each other.
+/// What workers and gossip came to beside each other: the seats of the workers, and why their calls were
+/// refused; and gossip.
 #[derive(Drop)]
 pub(crate) struct Both<L: Label> {
-    pub dones: Vec<Done<L>>,
+    pub worked: Finished<L>,
+    pub faults: Vec<NodeFault>,
     pub gossiped: Gossiped<L>,
+}
+
+/// Seats that are done, with that of a node's gossip behind them, where memory wasn't refused.
+pub(crate) fn with_gossip<L: Label>(
+    finished: Finished<L>,
+    gossiped: Gossiped<L>,
+) -> Result<Finished<L>, AllocError>
+    requires given { AreListsAt L.config L.seed finished.lists.items }
+    requires more { IfOk gossiped.receipts (λ rs. AreGivenSince L.config L.seed 0 rs.items) }
+    ensures len { IfOk result (λ all. vec_len all.seats ≡ vec_len finished.seats + 1) }
+    ensures given { IfOk result (λ all. AreListsAt L.config L.seed all.lists.items) }
+    ensures lists { IfOk result (λ all. (receipts : _) × (gossiped.receipts ≡ Ok receipts)
+        × (all.lists.items ≡ finished.lists.items ++ receipts ∷ [])) }
+{
+    let Gossiped {
+        seat,
+        wire: _,
+        receipts,
+    } = gossiped;
+    finished.with(seat, receipts?)
 }
 
 // Does the gossip of a node.
@@ -101,48 +122,18 @@ fn run_gossip<L: Label, R: Wait>(
     }
 }
 
-/// Makes the calls of workers, each in a thread of its own.
-pub(crate) fn work<L: Label + Send + Sync, R: Threads + Wait + Sync>(
-    rt: &R,
-    alloc: Global,
-    registry: &Registry<L>,
-    waits: &Waits,
-    node: u8,
-    jobs: Vec<Job<'_, L>>,
-) -> Result<Vec<Done<L>>, AllocError>
-    requires number { vec_len jobs ≤ 65536 }
-    requires few { All (λ j. vec_len j.asks < 2 ^ 32) jobs.items }
-    requires fresh { All (λ j. j.seat ≡ 0) jobs.items }
-    ensures len { IfOk result (λ dones. vec_len dones ≡ vec_len jobs.entry) }
-    ensures counted { IfOk result (λ dones. All (λ d. d.seat ≡ vec_len d.receipts) dones.items) }
-    ensures given { IfOk result (λ dones.
-        All (λ d. AreGivenSince L.config L.seed 0 d.receipts.items) dones.items) }
-    ensures made { IfOk result (λ dones.
-        AllZip (λ j d. HandsBack L.config L.seed (map ask_told j.asks.items) d)
-        jobs.entry.items dones.items) }
-{
-    let turns = Turns {
-        rt,
-        registry,
-        waits,
-        node,
-    };
-    match run_workers(rt, alloc, jobs, &turns) {
-        Ok(dones) => Ok(dones),
-        Err(_) => Err(AllocError),
-    }
-}
-
-// A node's gossip and its workers, none of which has called yet.
+// A node's gossip and the seats of its workers, none of which has called yet.
 #[derive(Drop)]
 struct Crew<'a, L: Label> {
+    blocks: &'a [Block<'a>],
+    node: u8,
     seat: Seat<L>,
     gossip: Gossip,
-    jobs: Vec<Job<'a, L>>,
+    seats: Vec<Seat<L>>,
     ghost fresh_seat: { seat ≡ 0 },
-    ghost number: { vec_len jobs ≤ 65536 },
-    ghost few: { All (λ j. vec_len j.asks < 2 ^ 32) jobs.items },
-    ghost fresh: { All (λ j. j.seat ≡ 0) jobs.items },
+    ghost number: { vec_len seats ≤ 65536 },
+    ghost each: { vec_len seats ≡ count_by (λ b. b.node == node) blocks.now },
+    ghost fresh: { All (λ calls. calls ≡ 0) seats.items },
 }
 
 // A gossip's thread does so many rounds over this wire.
@@ -219,78 +210,89 @@ fn work_in<'s, E, L: Label + Send + Sync + 's, R: Threads + Wait + Sync>(
     alloc: Global,
     registry: &'s Registry<L>,
     waits: &'s Waits,
-    node: u8,
     refused: &'s AtomicBool,
     crew: Crew<'s, L>,
 ) -> Result<Both<L>, AllocError>
-    ensures len { IfOk result (λ both. vec_len both.dones ≡ vec_len crew.entry.jobs) }
-    ensures counted { IfOk result (λ both.
-        All (λ d. d.seat ≡ vec_len d.receipts) both.dones.items) }
+    ensures len { IfOk result (λ both.
+        vec_len both.worked.seats ≡ vec_len crew.entry.seats) }
     ensures given { IfOk result (λ both.
-        All (λ d. AreGivenSince L.config L.seed 0 d.receipts.items) both.dones.items) }
-    ensures made { IfOk result (λ both.
-        AllZip (λ j d. HandsBack L.config L.seed (map ask_told j.asks.items) d)
-        crew.entry.jobs.items both.dones.items) }
+        AreListsAt L.config L.seed both.worked.lists.items) }
+    ensures calls { IfOk result (λ both. AreOfWorkers L.config L.seed
+        (of_node crew.entry.node (map block_value crew.entry.blocks.now))
+        both.worked.lists.items both.faults.items) }
     ensures gossiped { IfOk result (λ both. IfOk both.gossiped.receipts (λ rs.
         IsGossip L.config L.seed (crew.entry.gossip.wire, crew.entry.gossip.rounds)
         both.gossiped.wire rs.items)) }
 {
-    let Crew { seat, gossip, jobs } = crew;
+    let Crew {
+        blocks,
+        node,
+        seat,
+        gossip,
+        seats,
+    } = crew;
     let gossiping = start_gossip(
         scope, rt, alloc, registry, waits, node, refused, seat, gossip,
     );
-    let dones = work(rt, alloc, registry, waits, node, jobs);
+    let worked = work(rt, alloc, registry, waits, blocks, node, seats);
     let gossiped = join_gossip(rt, gossiping);
+    let (worked, faults) = worked?;
     Ok(Both {
-        dones: dones?,
+        worked,
+        faults,
         gossiped,
     })
 }
 
-/// Makes the calls of workers, each in a thread of its own, and does the node's gossip in another one.
+/// Makes the calls of a node's workers as `work` does, and does the node's gossip beside them in a thread of
+/// its own.
 pub(crate) fn work_and_gossip<L: Label + Send + Sync, R: Threads + Wait + Sync>(
     rt: &R,
     alloc: Global,
     registry: &Registry<L>,
     waits: &Waits,
+    blocks: &[Block<'_>],
     node: u8,
     seat: Seat<L>,
     gossip: Gossip,
-    jobs: Vec<Job<'_, L>>,
+    seats: Vec<Seat<L>>,
 ) -> Result<Both<L>, AllocError>
     requires seat { seat ≡ 0 }
-    requires number { vec_len jobs ≤ 65536 }
-    requires few { All (λ j. vec_len j.asks < 2 ^ 32) jobs.items }
-    requires fresh { All (λ j. j.seat ≡ 0) jobs.items }
-    ensures len { IfOk result (λ both. vec_len both.dones ≡ vec_len jobs.entry) }
-    ensures counted { IfOk result (λ both.
-        All (λ d. d.seat ≡ vec_len d.receipts) both.dones.items) }
+    requires number { vec_len seats ≤ 65536 }
+    requires each { vec_len seats ≡ count_by (λ b. b.node == node) blocks.now }
+    requires fresh { All (λ calls. calls ≡ 0) seats.items }
+    ensures len { IfOk result (λ both. vec_len both.worked.seats ≡ vec_len seats) }
     ensures given { IfOk result (λ both.
-        All (λ d. AreGivenSince L.config L.seed 0 d.receipts.items) both.dones.items) }
-    ensures made { IfOk result (λ both.
-        AllZip (λ j d. HandsBack L.config L.seed (map ask_told j.asks.items) d)
-        jobs.entry.items both.dones.items) }
+        AreListsAt L.config L.seed both.worked.lists.items) }
+    ensures calls { IfOk result (λ both. AreOfWorkers L.config L.seed
+        (of_node node (map block_value blocks.now))
+        both.worked.lists.items both.faults.items) }
     ensures gossiped { IfOk result (λ both. IfOk both.gossiped.receipts (λ rs.
         IsGossip L.config L.seed (gossip.wire, gossip.rounds) both.gossiped.wire rs.items)) }
 {
-    let crew = Crew { seat, gossip, jobs };
+    let crew = Crew {
+        blocks,
+        node,
+        seat,
+        gossip,
+        seats,
+    };
     let refused = AtomicBool::new(false);
     let refused = &refused;
     thread::scope(
         thread::scope_env(),
         rt,
         |scope| -> Result<Both<L>, AllocError>
-            ensures len { IfOk result (λ both. vec_len both.dones ≡ vec_len crew.entry.jobs) }
-            ensures counted { IfOk result (λ both.
-                All (λ d. d.seat ≡ vec_len d.receipts) both.dones.items) }
+            ensures len { IfOk result (λ both.
+                vec_len both.worked.seats ≡ vec_len crew.entry.seats) }
             ensures given { IfOk result (λ both.
-                All (λ d. AreGivenSince L.config L.seed 0 d.receipts.items) both.dones.items) }
-            ensures made { IfOk result (λ both.
-                AllZip (λ j d. HandsBack L.config L.seed (map ask_told j.asks.items) d)
-                crew.entry.jobs.items both.dones.items) }
+                AreListsAt L.config L.seed both.worked.lists.items) }
+            ensures calls { IfOk result (λ both. AreOfWorkers L.config L.seed
+                (of_node crew.entry.node (map block_value crew.entry.blocks.now))
+                both.worked.lists.items both.faults.items) }
             ensures gossiped { IfOk result (λ both. IfOk both.gossiped.receipts (λ rs.
                 IsGossip L.config L.seed (crew.entry.gossip.wire, crew.entry.gossip.rounds)
                 both.gossiped.wire rs.items)) }
-        { work_in(scope, rt, alloc, registry, waits, node, refused, crew) },
+        { work_in(scope, rt, alloc, registry, waits, refused, crew) },
     )
 }

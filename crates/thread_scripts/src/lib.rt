@@ -2,21 +2,15 @@
 //! a reader to a writer.
 #![tactic(auto)]
 
-mod asks;
 mod beside;
-mod finished;
 pub mod laws;
-mod lists;
 mod nodes;
 mod output;
 mod played;
-mod refused;
 mod rounds;
 mod run;
 mod starts;
 mod steps;
-mod turns;
-mod waits;
 mod warnings;
 
 pub use output::{judged_output_of, output_of};
@@ -26,5 +20,5 @@ pub use thread_plans::{
     Block, CallLine, RoundKind, Rounds, Size, Start, StartLine, ThreadPlan, read_plan,
 };
 pub use thread_warnings::read_plan_saying;
-pub use waits::{Await, Waits};
+pub use thread_workers::{Await, Waits};
 pub use warnings::warnings_of;

@@ -6,15 +6,11 @@ ghost use Rattle.std.specs.List.{sum_by};
 ghost use Rattle.std.specs.Option.{is_some};
 ghost use Rattle.node_steps.specs.Refusals.{is_bad_config};
 ghost use Rattle.thread_plans.specs.Plans.{plan_value};
-ghost use Rattle.thread_scripts.specs.Plays.{AreListsAt, AreOfNode, AreOfWork, IsTraceOf};
-ghost use Rattle.thread_scripts.specs.Plays.{blocks_of};
+ghost use Rattle.thread_scripts.specs.Plays.{AreOfNode, AreOfWork, IsTraceOf};
+ghost use Rattle.thread_workers.specs.Workers.{AreListsAt, of_node};
 
-use crate::asks::jobs_of;
-use crate::beside::{Gossip, work, work_and_gossip};
-use crate::finished::Finished;
-use crate::refused::faults_of;
+use crate::beside::{Both, Gossip, with_gossip, work_and_gossip};
 use crate::starts::make_starts;
-use crate::waits::Waits;
 use node_core::{Config, NodeFault, Receipt, Trace};
 use node_registry::{Closed, Label, Registry, Seat};
 use std::alloc::{AllocError, Global};
@@ -23,6 +19,7 @@ use std::sync::Wait;
 use std::sync::ledger::Blank;
 use std::thread::Threads;
 use thread_plans::{ThreadPlan, blocks_at};
+use thread_workers::{Finished, Waits, work};
 
 /// A node that is to run, with its gossip, if it does any.
 #[derive(Drop)]
@@ -71,23 +68,33 @@ fn make_calls_beside<L: Label + Send + Sync, R: Threads + Wait + Sync>(
         vec_len all.0.seats ≡ vec_len finished.seats + vec_len seats) }
     ensures given { IfOk result (λ all. AreListsAt L.config L.seed all.0.lists.items) }
     ensures calls { IfOk result (λ all. AreOfWork L.config L.seed
-        (blocks_of (plan_value plan.now) node) (option_map (λ g. (g.wire, g.rounds)) gossip)
+        (of_node node (plan_value plan.now).blocks) (option_map (λ g. (g.wire, g.rounds)) gossip)
         finished.lists.items all.0.lists.items all.1.items) }
 {
     let Some(gossip) = gossip else {
-        let jobs = jobs_of(alloc, registry, seats, &plan.blocks, node)?;
-        let dones = work(rt, alloc, registry, waits, node, jobs)?;
-        let faults = faults_of(alloc, &dones)?;
-        return Ok((finished.with_workers(dones)?, faults));
+        let (worked, faults) = work(rt, alloc, registry, waits, &plan.blocks, node, seats)?;
+        return Ok((finished.with_all(worked)?, faults));
     };
     let Some(seat) = seats.pop() else {
         unreachable!();
     };
-    let jobs = jobs_of(alloc, registry, seats, &plan.blocks, node)?;
-    let both = work_and_gossip(rt, alloc, registry, waits, node, seat, gossip, jobs)?;
-    let faults = faults_of(alloc, &both.dones)?;
-    let finished = finished.with_workers(both.dones)?;
-    Ok((finished.with_gossip(both.gossiped)?, faults))
+    let Both {
+        worked,
+        faults,
+        gossiped,
+    } = work_and_gossip(
+        rt,
+        alloc,
+        registry,
+        waits,
+        &plan.blocks,
+        node,
+        seat,
+        gossip,
+        seats,
+    )?;
+    let finished = finished.with_all(worked)?;
+    Ok((with_gossip(finished, gossiped)?, faults))
 }
 
 // Makes the calls of a node: first the ones before the workers, and then those of the workers and of

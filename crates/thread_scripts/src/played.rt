@@ -8,9 +8,7 @@ ghost use Rattle.thread_scripts.specs.Plays.{AllFrom, AreListsOf, AreOfNode, Are
 ghost use Rattle.thread_scripts.specs.Plays.{IsTraceOf, config_at, gossip_at};
 
 use crate::beside::Gossip;
-use crate::lists::put_behind;
 use crate::nodes::{NodeJob, NodePlayed, run_node};
-use crate::waits::Waits;
 use gossip::MailWire;
 use node_core::{Config, NodeFault, Receipt, Trace};
 use std::alloc::{AllocError, Global};
@@ -18,6 +16,7 @@ use std::sync::Wait;
 use std::thread;
 use std::thread::Threads;
 use thread_plans::{Rounds, ThreadPlan};
+use thread_workers::{Waits, put_behind};
 
 /// What a plan came to: the traces of its nodes, in their order; of each seat the receipts of its calls,
 /// in their order; why calls before the workers were refused, in the order of the nodes and of their

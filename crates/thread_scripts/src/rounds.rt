@@ -6,7 +6,6 @@ ghost use Rattle.node_registry.specs.Receipts.{AreGivenSince};
 ghost use Rattle.sharing.specs.Memory.{Recalled};
 ghost use Rattle.thread_scripts.specs.Gossips.{AreOfKind, AreShared, AreShifts, AreTold};
 
-use crate::lists::put_behind;
 use crate::steps::StepWire;
 use gossip::{Ended, gossip_rounds};
 use node_core::Receipt;
@@ -15,6 +14,7 @@ use registry_sharing::Sharing;
 use std::alloc::{AllocError, Global};
 use std::sync::Wait;
 use thread_plans::{RoundKind, Rounds};
+use thread_workers::put_behind;
 
 // So many rounds of messages.
 fn tell_rounds<L: Label, R: Wait>(

@@ -1,7 +1,7 @@
 //! A script of threads from a reader, and what it prints to a writer.
 
 ghost use Rattle.std.specs.Prelude.{◌≡◌, ◌≢◌, ℕ, ◌+◌, ◌<◌, ◌≤◌, ◌↔◌, ◌⊎◌, true, false, length};
-ghost use Rattle.std.specs.Prelude.{IfErr, IfOk, OnErr, OnOk, string_bytes};
+ghost use Rattle.std.specs.Prelude.{IfErr, IfOk, OnOk, string_bytes};
 ghost use Rattle.streams.specs.declared.fault.ScriptFault.TheVariants.{BadLine, OutOfMemory};
 ghost use Rattle.streams.specs.declared.fault.ScriptFault.TheVariants.{ReadFailed, TooLong};
 ghost use Rattle.streams.specs.declared.fault.ScriptFault.TheVariants.{WriteFailed};
@@ -20,7 +20,7 @@ use std::sync::Wait;
 use std::thread::Threads;
 use streams::{MOST_BYTES, ScriptFault, Watched, read_script, write_text};
 use thread_plans::read_plan;
-use thread_warnings::read_plan_saying;
+use thread_warnings::{read_plan_saying, write_saying};
 
 // What a script comes to, or its first bad line.
 fn played_text<R: Threads + Wait + Sync>(
@@ -110,26 +110,6 @@ fn played_texts<R: Threads + Wait + Sync>(
     Ok((text, warned))
 }
 
-// Writes what a script comes to, and then sets what is said.
-fn write_warned<O: Write>(
-    writer: &mut Watched<O>,
-    text: &[u8],
-    warned: Vec<u8>,
-    said: &mut Vec<u8>,
-) -> Result<(), ScriptFault>
-    requires { has_failed writer.old ≡ false }
-    ensures printed { OnOk result (Writes O.contents writer.old writer.new text.now) }
-    ensures flushed { OnOk result (has_unflushed writer.new ≡ false) }
-    ensures said { OnOk result (said.new.items ≡ warned.items) }
-    ensures unsaid { OnErr result (said.new ≡ said.old) }
-    ensures only { IfErr result (λ fault. fault ≡ WriteFailed) }
-    ensures failed { (result ≡ Err WriteFailed) ↔ (has_failed writer.new ≡ true) }
-{
-    write_text(writer, text)?;
-    *said = warned;
-    Ok(())
-}
-
 /// Runs the script of threads that a reader gives as `run_threads` does, and sets what is said to what
 /// it is warned of; or, where it is refused for a bad line, to what was wanted of its bad lines. After
 /// any other fault what is said is as it was.
@@ -166,5 +146,5 @@ pub fn run_threads_warning<R: Threads + Wait + Sync, I: Read, O: Write>(
 {
     let script = read_script(alloc, reader)?;
     let (text, warned) = played_texts(rt, alloc, script.as_slice(), said)?;
-    write_warned(writer, text.as_bytes(), warned, said)
+    write_saying(writer, text.as_bytes(), warned, said)
 }

@@ -4,16 +4,17 @@ ghost use Rattle.std.specs.Prelude.{◌≡◌, ◌≢◌, ◌++◌, ◌∷◌, [
 ghost use Rattle.node_calls.specs.Told.{ask_ref_told};
 ghost use Rattle.node_registry.specs.Receipts.{AreGivenSince};
 ghost use Rattle.thread_plans.specs.Plans.{start_line_value};
-ghost use Rattle.thread_scripts.specs.Calls.{Adds, AreMade, AreOfLine, AreOfSpread, AreOfStarts};
-ghost use Rattle.thread_scripts.specs.Calls.{fault_list, placed};
+ghost use Rattle.thread_workers.specs.Calls.{AreMade};
+ghost use Rattle.thread_scripts.specs.Calls.{Adds, AreOfLine, AreOfSpread, AreOfStarts, fault_list};
+ghost use Rattle.thread_scripts.specs.Calls.{placed};
 
-use crate::lists::put_behind;
 use gossip::{Ended, spread};
 use node_core::{AskRef, NodeFault, Receipt};
 use node_registry::{Label, Refusals, Registry, Seat};
 use std::alloc::{AllocError, Global};
 use std::sync::Wait;
 use thread_plans::{Start, StartLine};
+use thread_workers::put_behind;
 
 // A refusal is no error, but for out of memory.
 fn pass_over(fault: NodeFault) -> Result<Option<NodeFault>, AllocError>

@@ -4,3 +4,4 @@ pub mod Shorts
 pub mod ShortStarts
 pub mod FaultCodes
 pub mod RefusedStarts
+pub mod Inputs

@@ -9,5 +9,7 @@ mod short;
 mod short_starts;
 mod unfit;
 mod warnings;
+mod written;
 
 pub use warnings::{read_plan_saying, warned_text};
+pub use written::write_saying;

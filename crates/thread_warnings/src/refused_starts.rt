@@ -1,20 +1,28 @@
 //! Lines whose calls a node refused before its workers.
 
-ghost use Rattle.std.specs.Prelude.{◌≡◌, ◌++◌, slice_set, IfOk, OnOk, Some};
-ghost use Rattle.thread_warnings.specs.RefusedStarts.{fault_at, faults_by_place, refused_from, refused_starts};
-ghost use Rattle.thread_warnings.specs.RefusedStarts.{refused_sum, start_refused};
+ghost use Rattle.std.specs.Prelude.{◌≡◌, ◌++◌, IfOk, OnOk};
+ghost use Rattle.thread_warnings.specs.RefusedStarts.{AreByPlace, held_at, refused_starts, refused_sum};
+ghost use Rattle.thread_warnings.specs.RefusedStarts.{start_refused, with_fault};
 
 use crate::unfit::say_unfit;
 use node_calls::NodeFault;
 use std::alloc::{AllocError, Global};
+use thread_plans::MOST_NAMED;
 
-/// The most lines that are named.
-const MOST_NAMED: usize = 20;
-
-fn put_fault(faults: &mut Vec<Option<NodeFault>>, place: usize, fault: NodeFault)
-    ensures { faults.new.items ≡ slice_set faults.old.items place (Some fault) }
+fn held_at(faults: &[Option<NodeFault>], place: usize) -> Option<NodeFault>
+    ensures { result ≡ held_at faults.now place }
 {
-    if place >= faults.len() {
+    match faults.get(place) {
+        Some(fault) => *fault,
+        None => None,
+    }
+}
+
+// Keeps why the call of the line at a place was refused, unless that is told.
+fn put_fault(faults: &mut Vec<Option<NodeFault>>, place: usize, fault: NodeFault)
+    ensures { faults.new.items ≡ with_fault faults.old.items (place, fault) }
+{
+    if place >= faults.len() || held_at(faults, place).is_some() {
         return;
     }
     faults[place] = Some(fault);
@@ -26,22 +34,13 @@ fn faults_by_place(
     lines: usize,
     refused: &[(usize, NodeFault)],
 ) -> Result<Vec<Option<NodeFault>>, AllocError>
-    ensures { IfOk result (λ faults. faults.items ≡ faults_by_place lines refused.now) }
+    ensures { IfOk result (λ faults. AreByPlace lines refused.now faults.items) }
 {
     let mut faults = vec![in alloc; None; lines]?;
     for numbered in refused {
         put_fault(&mut faults, numbered.0, numbered.1);
     }
     Ok(faults)
-}
-
-fn fault_at(faults: &[Option<NodeFault>], place: usize) -> Option<NodeFault>
-    ensures { result ≡ fault_at faults.now place }
-{
-    match faults.get(place) {
-        Some(fault) => *fault,
-        None => None,
-    }
 }
 
 // Says why the call of a line was refused, if it was and not so many lines are named already.
@@ -54,7 +53,7 @@ fn say_start(
 ) -> Result<(), AllocError>
     ensures { OnOk result (said.new.items ≡ said.old.items ++ start_refused named number fault) }
 {
-    if named < MOST_NAMED {
+    if named < MOST_NAMED as usize {
         say_unfit(alloc, number, fault, said)
     } else {
         Ok(())
@@ -65,32 +64,11 @@ fn say_start(
 fn say_sum(alloc: Global, named: usize, said: &mut Vec<u8>) -> Result<(), AllocError>
     ensures { OnOk result (said.new.items ≡ said.old.items ++ refused_sum named) }
 {
-    if named <= MOST_NAMED {
+    if named <= MOST_NAMED as usize {
         return Ok(());
     }
     let text = format!(in alloc; "start lines that are refused: {named}\n")?;
     said.extend_from_slice(text.as_bytes())
-}
-
-// Says by the places of lines with these numbers why their calls were refused.
-fn say_from(
-    alloc: Global,
-    faults: &[Option<NodeFault>],
-    numbers: &[u32],
-    said: &mut Vec<u8>,
-) -> Result<(), AllocError>
-    ensures { OnOk result (said.new.items
-        ≡ said.old.items ++ refused_from faults.now 0 0 numbers.now) }
-{
-    let mut place = 0usize;
-    let mut named = 0usize;
-    for number in numbers {
-        let fault = fault_at(faults, place);
-        say_start(alloc, named, *number, fault, said)?;
-        named += usize::from(fault.is_some());
-        place += 1;
-    }
-    say_sum(alloc, named, said)
 }
 
 /// Says of each `start` line whose call was refused why, in the order of the lines, which have these
@@ -106,5 +84,13 @@ pub(crate) fn say_refused_starts(
         ≡ said.old.items ++ refused_starts numbers.now refused.now) }
 {
     let faults = faults_by_place(alloc, numbers.len(), refused)?;
-    say_from(alloc, &faults, numbers, said)
+    let mut place = 0usize;
+    let mut named = 0usize;
+    for number in numbers {
+        let fault = held_at(&faults, place);
+        say_start(alloc, named, *number, fault, said)?;
+        named += usize::from(fault.is_some());
+        place += 1;
+    }
+    say_sum(alloc, named, said)
 }

@@ -9,10 +9,7 @@ ghost use Rattle.thread_warnings.specs.Short.{worker_place};
 
 use node_calls::Receipt;
 use std::alloc::{AllocError, Global};
-use thread_plans::{Block, ThreadPlan, blocks_at};
-
-/// The most workers that are named.
-const MOST_NAMED: usize = 20;
+use thread_plans::{Block, MOST_NAMED, ThreadPlan, blocks_at};
 
 fn blocks_below(blocks: &[Block<'_>], node: u8) -> usize
     ensures { result ≡ count_by (λ b. nat_lt b.node node) blocks.now }
@@ -86,7 +83,7 @@ fn number_at(numbers: &[u32], place: usize) -> u32
 fn is_named(named: usize, short: u64) -> bool
     ensures { result ≡ is_named named short }
 {
-    short > 0 && named < MOST_NAMED
+    short > 0 && named < MOST_NAMED as usize
 }
 
 fn say_line(alloc: Global, number: u32, short: u64, said: &mut Vec<u8>) -> Result<(), AllocError>
@@ -117,7 +114,7 @@ fn say_short(
 fn say_sum(alloc: Global, named: usize, said: &mut Vec<u8>) -> Result<(), AllocError>
     ensures { OnOk result (said.new.items ≡ said.old.items ++ short_sum named) }
 {
-    if named <= MOST_NAMED {
+    if named <= MOST_NAMED as usize {
         return Ok(());
     }
     let text = format!(in alloc; "workers with such calls: {named}\n")?;

@@ -16,10 +16,7 @@ use actions::{ActionFault, Name, NameFault, SettingFault, parse_actions, parse_s
 use node_calls::{AskRef, NodeFault, PassReply, Receipt, Reply, TextFault};
 use std::alloc::{AllocError, Global};
 use streams::MOST_BYTES;
-use thread_plans::call_in_line;
-
-/// The most lines that are named.
-const MOST_NAMED: u32 = 20;
+use thread_plans::{MOST_NAMED, call_in_line};
 
 /// Why a call is refused, if it is, or memory is.
 type Why = Result<Option<NodeFault>, AllocError>;

@@ -1,9 +1,9 @@
-use Rattle.std.proofs.Common.{◌==◌, ◌≡◌, ◌+◌, false, length, rules, tests, arith, refl, ap, sym, ◌∙◌}
+use Rattle.std.proofs.Common.{◌==◌, length, rules, tests}
 use Rattle.std.proofs.lemmas.List.{length_push}
 use Rattle.std.proofs.lemmas.Iterator.Consumers.{YieldsList-turn, YieldsList-end}
 use Rattle.std.proofs.lemmas.Iterator.Splits.{YieldsList-from_slice_split}
 use Rattle.streams.specs.Fields.{lines_of}
-use Rattle.thread_checks.specs.Views.{but_last, shown_line, view_of, worked_after}
+use Rattle.thread_checks.specs.Views.{shown_line, view_of, worked_after}
 use Rattle.thread_checks.proofs.ByLines.{all_shown, one_shown}
 use Rattle.thread_checks.proofs.views.view_of.Goals as goal
 

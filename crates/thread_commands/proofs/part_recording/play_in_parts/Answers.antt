@@ -1,4 +1,3 @@
-use Rattle.std.proofs.Common.{rules}
 use Rattle.std.specs.Prelude.{string_bytes}
 use Rattle.thread_commands.proofs.Recorded.{kept}
 use Rattle.thread_commands.proofs.part_recording.play_in_parts.Goals as goal

@@ -1,8 +1,7 @@
 use Rattle.std.proofs.lemmas.Result.{on_ok_weaker}
 use Rattle.streams.specs.Streams.{Writes}
 use Rattle.streams.specs.Watched.{inner_of}
-use Rattle.thread_commands.proofs.CheckedRuns.{refused_too_long}
-use Rattle.thread_commands.proofs.Warned.{on_done, on_done_saying, on_refused_saying, plays, said_where_refused, saying}
+use Rattle.thread_commands.proofs.Warned.{on_done, on_done_saying, on_refused_saying, plays, refused_too_long, said_where_refused, saying}
 use Rattle.thread_commands.proofs.thread_runs.threads.Goals as goal
 
 pub returns-clause-done : goal.returns-clause-done

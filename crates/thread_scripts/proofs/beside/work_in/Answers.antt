@@ -1,4 +1,3 @@
-use Rattle.std.proofs.Common.{◌≡◌}
 use Rattle.std.specs.Prelude.{IfOk}
 use Rattle.thread_scripts.specs.Gossips.{IsGossip}
 use Rattle.thread_scripts.proofs.Started.{either_is}

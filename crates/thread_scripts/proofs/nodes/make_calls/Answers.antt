@@ -1,7 +1,8 @@
 use Rattle.std.proofs.Common.{◌≡◌, ◌∙◌, ◌++◌, ◌∷◌, [], ap, subst}
 use Rattle.std.specs.Prelude.{option_map}
 use Rattle.thread_plans.specs.Plans.{plan_value}
-use Rattle.thread_scripts.specs.Plays.{AreOfWork, blocks_of}
+use Rattle.thread_workers.specs.Workers.{of_node}
+use Rattle.thread_scripts.specs.Plays.{AreOfWork}
 use Rattle.thread_scripts.proofs.nodes.make_calls.Goals as goal
 
 pub returns-clause-calls : goal.returns-clause-calls
@@ -20,8 +21,8 @@ returns-clause-calls g c =
       refused = c.in_ok-seat.field-0-2;
       given = c.in_ok-all.ensures.given;
       started = rw c.deref.ensures.value at c.in_ok-seat.ensures.done;
-      beside = subst (λ node. AreOfWork config seed (blocks_of plan node) gossip (starts ∷ []) lists faults)
+      beside = subst (λ node. AreOfWork config seed (of_node node plan.blocks) gossip (starts ∷ []) lists faults)
           c.requires.node
-          (subst (λ was. AreOfWork config seed (blocks_of plan c.args.node) gossip was lists faults) first
+          (subst (λ was. AreOfWork config seed (of_node c.args.node plan.blocks) gossip was lists faults) first
           c.in_ok-all.ensures.calls);
     }

@@ -7,7 +7,7 @@ use Rattle.gossip.specs.Mailboxes.{new_place}
 use Rattle.thread_plans.specs.Plans.{plan_value}
 use Rattle.thread_scripts.specs.Gossips.{gossip_over}
 use Rattle.thread_scripts.specs.Plays.{config_at, gossip_at}
-use Rattle.thread_scripts.proofs.Made.{next_wire}
+use Rattle.thread_scripts.proofs.Wires.{next_wire}
 use Rattle.thread_scripts.proofs.Numbered.{AllFrom-push}
 use Rattle.thread_scripts.proofs.played.jobs_of.Goals as goal
 

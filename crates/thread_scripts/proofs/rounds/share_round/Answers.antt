@@ -1,7 +1,7 @@
 use Rattle.std.proofs.Common.{◌≡◌, ◌∙◌, ◌+◌, ◌++◌, ap, append_assoc, arith, length, length-append, subst}
 use Rattle.registry_sharing.specs.Rounds.{IsRoundWith}
 use Rattle.thread_scripts.proofs.Numbered.{OnOk-map}
-use Rattle.thread_scripts.proofs.Seats.{given_after}
+use Rattle.thread_workers.proofs.Seats.{given_after}
 use Rattle.thread_scripts.proofs.rounds.share_round.Goals as goal
 
 pub returns-clause-counted : goal.returns-clause-counted

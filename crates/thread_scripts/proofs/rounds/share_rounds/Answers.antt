@@ -1,4 +1,4 @@
-use Rattle.std.proofs.Common.{◌≡◌, ◌∙◌, arith, ap, rules, subst, sym}
+use Rattle.std.proofs.Common.{◌≡◌, arith, rules, subst}
 use Rattle.thread_scripts.specs.Gossips.{AreShared, no_round, next_round}
 use Rattle.thread_scripts.proofs.rounds.share_rounds.Goals as goal
 

@@ -1,6 +1,6 @@
-use Rattle.std.proofs.Common.{◌≡◌, ap, arith, length, length-append, refl, rules}
+use Rattle.std.proofs.Common.{ap, arith, length, length-append, refl, rules}
 use Rattle.thread_scripts.proofs.Numbered.{OnOk-map}
-use Rattle.thread_scripts.proofs.Seats.{given_after}
+use Rattle.thread_workers.proofs.Seats.{given_after}
 use Rattle.thread_scripts.proofs.StartLines.{done_of}
 use Rattle.thread_scripts.proofs.starts.spread_rights.Goals as goal
 

@@ -1,0 +1,4 @@
+pub mod LineAsks
+pub mod Made
+pub mod Seats
+pub mod Faults

@@ -1,0 +1,17 @@
+//! The workers of a node in a script of threads: what they ask, what they wait for, and what they came to.
+#![tactic(auto)]
+
+mod asks;
+mod finished;
+mod lists;
+mod refused;
+mod steps;
+mod turns;
+mod waits;
+mod working;
+
+pub use finished::Finished;
+pub use lists::put_behind;
+pub use steps::Steps;
+pub use waits::{Await, Waits, is_known};
+pub use working::work;
