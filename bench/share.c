@@ -1,5 +1,6 @@
 /* How long a round of sharing takes at a node of 32 that knows 256 points of 16 counted terms, by what
- * the others passed since the round before. Needs the library that embedding/build leaves:
+ * the others passed since the round before. The node has a process of its own, as it would; the others
+ * share one. Needs the library that embedding/build leaves:
  *
  *     cc -O2 -I embedding bench/share.c embedding/lib/libfailreg.a -o /tmp/share && /tmp/share
  *
@@ -9,7 +10,10 @@
 #include <stdio.h>
 #include <stdlib.h>
 #include <string.h>
+#include <sys/mman.h>
+#include <sys/wait.h>
 #include <time.h>
+#include <unistd.h>
 
 enum { NODES = 32, POINTS = 256, TERMS = 16, ROUNDS = 11 };
 
@@ -36,59 +40,135 @@ static size_t name_of(int point, char *into)
     return (size_t)sprintf(into, "a_point_of_many.%03d", point);
 }
 
-static void tell(int from, int to)
+/* What lies between the two processes: a message, and whose turn it is. */
+static struct { size_t length; uint8_t bytes[1 << 24]; } *between;
+static int to_node[2], to_others[2];
+
+static void hand_over(const int turn[2])
 {
-    static uint8_t message[1 << 24];
-    bool changed;
-    must(failreg_emit(&nodes[from], (uint8_t)to));
-    size_t length = failreg_fetch(&nodes[from], (char *)message, sizeof message);
-    must(failreg_deliver(&nodes[to], message, length, &changed));
+    if (write(turn[1], "", 1) != 1)
+        exit(1);
 }
 
-/* All points at all nodes, whose rights are those of `setter`, or of all alike. */
-static void begin(int setter, bool is_spread)
+/* A process whose other one has ended ends too. */
+static void await(const int turn[2])
+{
+    char byte;
+    if (read(turn[0], &byte, 1) != 1)
+        exit(1);
+}
+
+static void write_message(int from, int to)
+{
+    must(failreg_emit(&nodes[from], (uint8_t)to));
+    between->length = failreg_fetch(&nodes[from], (char *)between->bytes, sizeof between->bytes);
+}
+
+static void take_message(int at)
+{
+    bool changed;
+    must(failreg_deliver(&nodes[at], between->bytes, between->length, &changed));
+}
+
+static void open_nodes(int first, int end)
+{
+    for (int n = first; n < end; n++)
+        must(failreg_open(&nodes[n], (uint8_t)n, NODES, FAILREG_NO_CAP, SEED));
+}
+
+/* All points at a node, whose rights are its own, or those of all alike. */
+static void set_points(int node, bool is_spread)
 {
     char actions[TERMS * 16] = "", name[32];
     for (int term = 0; term < TERMS; term++)
         strcat(strcat(actions, term ? "->" : ""), "0%64*off");
-    for (int n = 0; n < NODES; n++) {
-        failreg_close(&nodes[n]);
-        must(failreg_open(&nodes[n], (uint8_t)n, NODES, FAILREG_NO_CAP, SEED));
-    }
     for (int point = 0; point < POINTS; point++) {
         failreg_stamp stamp;
         size_t length = name_of(point, name);
-        must((is_spread ? failreg_set_spread : failreg_set)(&nodes[setter], name, length, actions, strlen(actions), &stamp));
+        must((is_spread ? failreg_set_spread : failreg_set)(&nodes[node], name, length, actions, strlen(actions), &stamp));
     }
-    for (int n = 0; n < NODES; n++)
-        if (n != setter)
-            tell(setter, n);
 }
 
-/* The others pass so many points, and node 0 hears of it. */
-static void others_pass(int points)
+/* The process of the others: they hear of the points, pass so many before each round, and each tells node 0, and hears
+ * that this came, so that it tells no more of it. */
+static void be_others(int setter, bool is_spread, int points)
 {
     char name[32];
     failreg_act act;
+    open_nodes(1, NODES);
+    if (setter)
+        set_points(setter, is_spread);
     for (int n = 1; n < NODES; n++) {
-        for (int point = 0; point < points; point++) {
-            size_t length = name_of(point, name);
-            must(failreg_pass(&nodes[n], name, length, &act));
+        if (setter) {
+            write_message(setter, n == setter ? 0 : n);
+            if (n == setter)
+                hand_over(to_node);
         }
-        tell(n, 0);
-        /* It hears that this came, and tells no more of it. */
-        tell(0, n);
-        must(failreg_forget(&nodes[n]));
+        if (!setter || n == setter)
+            await(to_others);
+        if (n != setter)
+            take_message(n);
+        if (!setter)
+            hand_over(to_node);
+    }
+    for (int round = 0; points && round < ROUNDS; round++)
+        for (int n = 1; n < NODES; n++) {
+            for (int point = 0; point < points; point++) {
+                size_t length = name_of(point, name);
+                must(failreg_pass(&nodes[n], name, length, &act));
+            }
+            write_message(n, 0);
+            hand_over(to_node);
+            await(to_others);
+            take_message(n);
+            must(failreg_forget(&nodes[n]));
+        }
+    exit(0);
+}
+
+/* Node 0 hears of the points, or tells the others of them. */
+static void begin(int setter, bool is_spread)
+{
+    open_nodes(0, 1);
+    if (setter) {
+        await(to_node);
+        take_message(0);
+        hand_over(to_others);
+        return;
+    }
+    set_points(0, is_spread);
+    for (int n = 1; n < NODES; n++) {
+        write_message(0, n);
+        hand_over(to_others);
+        await(to_node);
     }
 }
 
-static void measure(const char *what, int points)
+static void hear_others(void)
+{
+    for (int n = 1; n < NODES; n++) {
+        await(to_node);
+        take_message(0);
+        write_message(0, n);
+        hand_over(to_others);
+    }
+}
+
+static void measure(const char *what, int setter, bool is_spread, int points)
 {
     double best = 1e18;
     uint64_t shifts = 0, most = 0;
+    int status = 0;
+    pid_t others = pipe(to_node) || pipe(to_others) ? -1 : fork();
+    if (others == 0) {
+        close(to_node[0]), close(to_others[1]);
+        be_others(setter, is_spread, points);
+    }
+    close(to_node[1]), close(to_others[0]);
+    begin(setter, is_spread);
     for (int round = 0; round < ROUNDS; round++) {
         if (points)
-            others_pass(points);
+            hear_others();
         double begun = microseconds();
         must(failreg_share(&nodes[0], &shifts));
         double took = microseconds() - begun;
@@ -96,24 +176,28 @@ static void measure(const char *what, int points)
         most = shifts > most ? shifts : most;
         must(failreg_forget(&nodes[0]));
     }
+    failreg_close(&nodes[0]);
+    close(to_node[0]), close(to_others[1]);
+    if (waitpid(others, &status, 0) < 0 || status) {
+        fprintf(stderr, "share.c: the process of the others failed\n");
+        exit(1);
+    }
     printf("%-66s %9.0f   %5llu shifts at most\n", what, best, (unsigned long long)most);
     fflush(stdout);
 }
 
 int main(void)
 {
-    begin(1, false);
-    measure("nobody passed; the node has no right", 0);
-    measure("31 nodes passed 8 points; the node has no right", 8);
-    measure("31 nodes passed all points; the node has no right", POINTS);
-    begin(0, false);
-    measure("nobody passed; the node has all rights", 0);
-    begin(1, true);
-    measure("31 nodes passed 8 points; each node has rights", 8);
-    measure("31 nodes passed all points; each node has rights", POINTS);
-    begin(0, false);
-    measure("31 nodes passed 8 points; the node has all rights at first", 8);
-    begin(0, false);
-    measure("31 nodes passed all points; the node has all rights at first", POINTS);
+    between = mmap(NULL, sizeof *between, PROT_READ | PROT_WRITE, MAP_SHARED | MAP_ANONYMOUS, -1, 0);
+    if (between == MAP_FAILED)
+        return 1;
+    measure("nobody passed; the node has no right", 1, false, 0);
+    measure("31 nodes passed 8 points; the node has no right", 1, false, 8);
+    measure("31 nodes passed all points; the node has no right", 1, false, POINTS);
+    measure("nobody passed; the node has all rights", 0, false, 0);
+    measure("31 nodes passed 8 points; each node has rights", 1, true, 8);
+    measure("31 nodes passed all points; each node has rights", 1, true, POINTS);
+    measure("31 nodes passed 8 points; the node has all rights at first", 0, false, 8);
+    measure("31 nodes passed all points; the node has all rights at first", 0, false, POINTS);
     return 0;
 }
