@@ -1,7 +1,8 @@
 //! Who waits for rights to one term, in which order, and what each is given.
 
 ghost use Rattle.std.specs.Prelude.{◌≡◌, ◌++◌, ◌∷◌, [], ◌≤◌, ◌==◌, ℕ, List, length, nat_lt, pos};
-ghost use Rattle.std.specs.Prelude.{◌<◌, ◌<ℤ◌, slice_index, slice_index_or, take, vec_len, IsTrue, OnOk};
+ghost use Rattle.std.specs.Prelude.{◌<◌, ◌<ℤ◌, slice_index, slice_index_or, take, vec_len};
+ghost use Rattle.std.specs.Prelude.{IsTrue, OnOk};
 ghost use Rattle.std.specs.Int.{int_gap};
 ghost use Rattle.std.specs.List.{All, filter, position_or_len};
 ghost use Rattle.std.specs.List.Sorted.{IsNonDecreasingBy};
@@ -58,8 +59,8 @@ fn rights_among<S: Stored>(stored: &S, term: u8, node: u8, rights: &[i128]) -> i
 }
 
 /// What a node can spare of a term. Where it can't spare any, its own rights are all that is read,
-/// unless it could of the term before: then it mostly can of this one too, and its rights are read with
-/// those of all.
+/// unless it could of the term before: then it mostly can of this one too, and its rights are read
+/// with those of all.
 fn read_spare<S: Stored>(stored: &S, giver: Giver, term: u8, room: &mut Room) -> u64
     requires { vec_len room.old.rights ≤ 256 }
     ensures spare { result ≡ spare_of (rights_of_key (S.held stored.now).key
@@ -88,7 +89,8 @@ fn are_some(rights: &[i128]) -> bool
     are_some
 }
 
-/// Writes which of these nodes have no right. Mostly each node has some, and then nobody is looked for.
+/// Writes which of these nodes have no right. Mostly each node has some, and then nobody is looked
+/// for.
 fn find_waiting(rights: &[i128], others: &[u8], waiting: &mut Vec<u8>) -> Result<(), AllocError>
     requires { All (λ other. other < length rights.now) others.now }
     ensures { OnOk result (waiting.new.items ≡ filter

@@ -1,5 +1,5 @@
-//! Room for what is read of one point at a time, and of one of its terms. It is kept over all points
-//! of a round, so that no list grows at each anew.
+//! Room for what is read of one point at a time, and of one of its terms. It is kept over all
+//! points of a round, so that no list grows at each anew.
 
 ghost use Rattle.std.specs.Prelude.{◌≡◌, ◌≤◌, map, vec_len, IfOk};
 ghost use Rattle.std.specs.List.{range_with_len};
@@ -9,8 +9,8 @@ ghost use Rattle.sharing.specs.Rooms.{AreRights, HasPlaces, IsAsLarge};
 use replica_state::Stored;
 use std::alloc::{AllocError, Global};
 
-/// Who passed a point; and of a term the rights of each node, its executions, who waits, and in which
-/// line. `has_spare` says that the node could spare some rights to the term before.
+/// Who passed a point; and of a term the rights of each node, its executions, who waits, and in
+/// which line. `has_spare` says that the node could spare some rights to the term before.
 #[derive(Debug, Drop)]
 pub(crate) struct Room {
     pub(crate) has_spare: bool,
