@@ -3,10 +3,10 @@ use Rattle.std.proofs.Common.{◌≡◌, ◌≢◌, ◌==◌, ℕ, Bool, true, f
 use Rattle.std.proofs.lemmas.List.{map-append}
 use Rattle.gossip.proofs.RangeLemmas.{unequal}
 use Rattle.gossip.specs.Traffic.{Traffic, sends}
-use Rattle.http_wire.specs.declared.key.Key.{Key}
-use Rattle.http_wire.specs.declared.posting.Posted.{Posted}
-use Rattle.http_wire.specs.declared.wire.Peer.{Peer}
-use Rattle.http_wire.specs.Posts.{Posts}
+use Rattle.http_posts.specs.declared.key.Key.{Key}
+use Rattle.http_posts.specs.declared.answer.Posted.{Posted}
+use Rattle.http_posts.specs.declared.peer.Peer.{Peer}
+use Rattle.http_posts.specs.Posts.{Posts}
 use Rattle.http_wire.specs.Sent.{IsSentTo, bytes_or_none, posted_value, traffic_of}
 
 whole : (message : List ℕ) → bytes_or_none (if length message == 0 then None else Some message) ≡ message
