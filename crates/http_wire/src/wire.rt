@@ -124,7 +124,8 @@ impl<R: Wait + Clock + Net + RandomSource + AllocGlobal + Drop> HttpWire<R> {
         ensures heard { HasHeardOf peer.node self.old.forgetful.items self.new.forgetful.items }
     {
         let connection = self.connection_to(peer)?;
-        let told = self.poster.post(alloc, connection, self.key.as_ref(), message)?;
+        let key = self.key.as_ref();
+        let told = self.poster.post(alloc, connection, key, message)?;
         hear(&mut self.forgetful, peer.node, told.says);
         told.taken_in()?;
         self.sent.add(&told.posted);
@@ -141,7 +142,8 @@ impl<R: Wait + Clock + Net + RandomSource + AllocGlobal + Drop> HttpWire<R> {
         ensures unsent { OnErr result (self.new.hellos.items ≡ self.old.hellos.items) }
     {
         let connection = self.poster.connect(peer)?;
-        let asked = self.poster.post_hello(alloc, connection, self.key.as_ref(), own)?;
+        let asking = self.key.as_ref();
+        let asked = self.poster.post_hello(alloc, connection, asking, own)?;
         asked.taken_in()?;
         self.hellos.add(&asked.posted);
         Ok(())
@@ -163,9 +165,10 @@ impl<R: Wait + Clock + Net + RandomSource + AllocGlobal + Drop> HttpWire<R> {
         ensures unsent { OnErr result (self.new.hellos.items ≡ self.old.hellos.items) }
     {
         match self.address_of(to) {
-            Some(address) => self
-                .ask_peer(alloc, own, Peer { node: to, address })
-                .map_err(failure_of),
+            Some(address) => match self.ask_peer(alloc, own, Peer { node: to, address }) {
+                Ok(()) => Ok(()),
+                Err(error) => Err(failure_of(error)),
+            },
             None => Err(WireError::NoPeer),
         }
     }
@@ -200,8 +203,10 @@ impl<R: Wait + Clock + Net + RandomSource + AllocGlobal + Drop> Wire for HttpWir
         let Some(address) = self.address_of(to) else {
             return Err(WireError::NoPeer);
         };
-        self.post_to(alloc, Peer { node: to, address }, message)
-            .map_err(failure_of)
+        match self.post_to(alloc, Peer { node: to, address }, message) {
+            Ok(()) => Ok(()),
+            Err(error) => Err(failure_of(error)),
+        }
     }
 
     fn take<S: Wait>(&mut self, _rt: &S, _alloc: Global) -> Result<Option<Vec<u8>>, WireError>

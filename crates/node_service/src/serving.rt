@@ -149,7 +149,13 @@ where
     let keyed = keyed_by(rt, options.key_file)?;
     let first = options.failpoints;
     serve_opened(
-        rt, registry, Calls::Forgotten(serving), telling, keyed, first, options,
+        rt,
+        registry,
+        Calls::Forgotten(serving),
+        telling,
+        keyed,
+        first,
+        options,
     )
 }
 
@@ -172,7 +178,13 @@ where
     let (recorder, calls) = gone_on(rt, registry, serving, part)?;
     let first = if calls == 0 { options.failpoints } else { None };
     serve_opened(
-        rt, registry, Calls::Kept(&recorder), telling, keyed, first, options,
+        rt,
+        registry,
+        Calls::Kept(&recorder),
+        telling,
+        keyed,
+        first,
+        options,
     )
 }
 
@@ -215,12 +227,7 @@ where
 }
 
 // Whom a node has heard that begins: nobody.
-fn heard_by(
-    alloc: Global,
-    node: u8,
-    nodes: u8,
-    start: Start,
-) -> Result<Arc<Peers>, NodeFault>
+fn heard_by(alloc: Global, node: u8, nodes: u8, start: Start) -> Result<Arc<Peers>, NodeFault>
     ensures { IfOk result (λ heard. IsHeardBy node nodes start (arc_value heard)) }
 {
     let hearing = match start {

@@ -1,4 +1,4 @@
-use Rattle.std.proofs.Common.{ap, sym, subst₂, ◌∙◌}
+use Rattle.std.proofs.Common.{ap, sym, subst₂, ◌∙◌, arith}
 use Rattle.http_posts.specs.Posts.{PostsHello}
 use Rattle.http_wire.proofs.wire.HttpWire.ask_peer.Goals as goal
 
@@ -11,6 +11,6 @@ returns-clause-posted g c =
       more = c.add.ensures;
       peer = told.to ∙ c.in_ok-connection.ensures.ok;
       posts = subst₂ (λ a k. PostsHello a k c.args.own c.in_ok-asked.asked.posted.request.value) address
-          c.as_ref.ensures.value told.posts;
-      status = grind (told.answered.status, c.taken_in.ensures.ok);
+          c.as_ref-asking.ensures.value told.posts;
+      status = grind (arith, told.answered.status, c.taken_in.ensures.ok);
     }
