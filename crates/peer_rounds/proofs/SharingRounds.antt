@@ -42,6 +42,6 @@ module _ (config : Config) (seed : List ℕ) (keeps : Bool) (seats : ℕ) where
   pub few_without : (wanted : Rights) (rounds had has : ℕ) (memory : List Recalled) →
       AreTold wanted config seed keeps seats rounds had has memory → wanted ≡ Stay →
       has ≤ had + rounds * most_calls config
-  few_without wanted rounds had has memory told stay =
+  few_without wanted rounds had has memory all stay =
       few_told rounds had has memory
-      (subst (λ r. AreTold r config seed keeps seats rounds had has memory) stay told)
+      (subst (λ r. AreTold r config seed keeps seats rounds had has memory) stay all)

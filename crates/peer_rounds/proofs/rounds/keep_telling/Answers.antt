@@ -1,16 +1,19 @@
 use Rattle.std.proofs.Common.{ap, ◌∙◌, length, arith}
+use Rattle.peer_rounds.specs.Sharing as sharing
 use Rattle.peer_rounds.proofs.RoundLemmas.{few_told}
 use Rattle.peer_rounds.proofs.rounds.keep_telling.Goals as goal
 
 pub tell_rounds-requires-clause-peers : goal.tell_rounds-requires-clause-peers
 tell_rounds-requires-clause-peers g c =
-    let paces = rw c.in-Ok-Ok.is-1 at c.first_paces-paces.ensures.paces in
     let few = few_told g.L.Label.config c.deref.result.now in
-    let long = ap length (c.deref_mut.ensures.value ∙ paces) in
+    let long = ap length (c.deref_mut.ensures.value ∙ c.in-Ok.ensures.paces) in
     omega (arith, long, few)
 
 pub tell_rounds-requires-clause-few : goal.tell_rounds-requires-clause-few
 tell_rounds-requires-clause-few g c =
-    let few = rw c.in-Ok-Ok.is-1 at c.first_paces-paces.ensures.few in
+    let few = c.in-Ok.ensures.few in
     let long = ap length c.deref_mut.ensures.value in
     omega (arith, long, few)
+
+pub returns-in_default-clause-rounds : goal.returns-in_default-clause-rounds
+returns-in_default-clause-rounds g c = sharing.ended
