@@ -189,10 +189,10 @@ where
 }
 
 // Sets a node's first points, serves it, and tells its peers from the other seat.
-fn serve_opened<L, R>(
+fn serve_opened<'a, L, R>(
     rt: &R,
-    registry: &Arc<Registry<L>>,
-    mut calls: Calls<'_, L>,
+    registry: &'a Arc<Registry<L>>,
+    mut calls: Calls<'a, L>,
     telling_seat: Seat<L>,
     keyed: Keyed,
     first_points: Option<&str>,
