@@ -13,7 +13,7 @@ use crate::ended::NodeServed;
 use crate::fault::ServiceFault;
 use crate::key_file::{Keyed, keyed_by};
 use crate::recording::gone_on;
-use crate::telling::{Serving, serve_and_tell};
+use crate::telling::{Serving, Telling, serve_and_tell};
 use command_line::{PartOptions, ServeOptions, Start};
 use http_serve::{Ending, Hearing, Peers, ServeFault};
 use node_core::{Config, MAX_TRACE_CAP, NodeFault};
@@ -193,7 +193,7 @@ fn serve_opened<'a, L, R>(
     rt: &R,
     registry: &'a Arc<Registry<L>>,
     mut calls: Calls<'a, L>,
-    telling_seat: Seat<L>,
+    seat: Seat<L>,
     keyed: Keyed,
     first_points: Option<&str>,
     options: ServeOptions<'_>,
@@ -204,14 +204,12 @@ where
     requires { L.keeps ≡ false }
     ensures { IfOk result (IsNodeServed options.entry.requests) }
 {
-    let (mut runtime, listener) = begun(rt, registry, &mut calls, options.listen, first_points)?;
-    let heard = heard_by(
-        rt.alloc(),
-        options.node,
-        options.nodes,
-        options.telling.start,
-    )?;
-    let ending = Ending::new(rt.alloc()).map_err(NodeFault::from)?;
+    let Begun {
+        mut runtime,
+        listener,
+        heard,
+        ending,
+    } = begin(rt, registry, &mut calls, &options, first_points)?;
     let Keyed { access, key } = keyed;
     let serving = Serving {
         runtime: &mut runtime,
@@ -223,7 +221,12 @@ where
         requests: options.requests,
         ending: &ending,
     };
-    Ok(serve_and_tell(rt, serving, telling_seat, options.telling, key)?)
+    let telling = Telling {
+        seat,
+        options: options.telling,
+        key,
+    };
+    Ok(serve_and_tell(rt, serving, telling)?)
 }
 
 // Whom a node has heard that begins: nobody.
@@ -237,25 +240,51 @@ fn heard_by(alloc: Global, node: u8, nodes: u8, start: Start) -> Result<Arc<Peer
     Ok(Peers::new(alloc, node, nodes, hearing)?)
 }
 
+// Where a node is served, whom it has heard, and where its service is ended.
+#[derive(Drop)]
+struct Begun {
+    runtime: Runtime,
+    listener: TcpListener,
+    heard: Arc<Peers>,
+    ending: Arc<Ending>,
+}
+
 // Listens for the node, says where, and sets its first points.
-fn begun<L, R>(
+fn begin<L, R>(
     rt: &R,
     registry: &Registry<L>,
     calls: &mut Calls<'_, L>,
-    listening: SocketAddr,
+    options: &ServeOptions<'_>,
     first_points: Option<&str>,
-) -> Result<(Runtime, TcpListener), ServiceFault>
+) -> Result<Begun, ServiceFault>
 where
     L: Label,
     R: Host + Print,
 {
-    let Ok((runtime, listener, port)) = listen(rt, listening) else {
+    let alloc = rt.alloc();
+    let (runtime, listener) = listening(rt, options.listen)?;
+    if let Some(text) = first_points {
+        calls.set_first(rt, alloc, registry, text)?;
+    }
+    let heard = heard_by(alloc, options.node, options.nodes, options.telling.start)?;
+    let ending = Ending::new(alloc).map_err(NodeFault::from)?;
+    Ok(Begun {
+        runtime,
+        listener,
+        heard,
+        ending,
+    })
+}
+
+// Listens at an address, and says at which port.
+fn listening<R>(rt: &R, address: SocketAddr) -> Result<(Runtime, TcpListener), ServiceFault>
+where
+    R: Host + Print,
+{
+    let Ok((runtime, listener, port)) = listen(rt, address) else {
         return Err(ServiceFault::Serve(ServeFault::BindFailed));
     };
     say_where(rt, port)?;
-    if let Some(text) = first_points {
-        calls.set_first(rt, rt.alloc(), registry, text)?;
-    }
     Ok((runtime, listener))
 }
 

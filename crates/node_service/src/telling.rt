@@ -35,6 +35,21 @@ pub struct Serving<'a, L: Label> {
     ghost forgets: { L.keeps ≡ false },
 }
 
+/// From where a node tells its peers, which ones and how often, and the key with which it does, if there is one.
+#[derive(Drop)]
+pub struct Telling<L: Label> {
+    pub seat: Seat<L>,
+    pub options: GossipOptions,
+    pub key: Option<Key>,
+}
+
+impl<L: Label> Telling<L> {
+    // Whether anybody is told.
+    fn is_wanted(&self) -> bool {
+        !self.options.peers.is_empty() && self.options.rounds > 0
+    }
+}
+
 // Serves a node as it is called.
 fn served<'a, L, R>(rt: &R, serving: Serving<'a, L>) -> Result<Served<'a>, ServeFault>
 where
@@ -78,14 +93,35 @@ where
     Ok(NodeServed::of(ending, served))
 }
 
+// Tells the peers of a node beside its service.
+fn tell<L, R>(
+    rt: &R,
+    registry: &Registry<L>,
+    recorder: Option<&Recorder<L>>,
+    telling: Telling<L>,
+    heard: &Peers,
+    service: &Service,
+)
+where
+    L: Label,
+    R: Host,
+{
+    let Telling {
+        mut seat,
+        options,
+        key,
+    } = telling;
+    tell_peers(
+        rt, registry, recorder, &mut seat, &options, heard, key, service,
+    );
+}
+
 // Serves a node, with its gossip in a thread of the scope.
 fn serve_in<'s, E, L, R>(
     scope: &Scope<'s, E>,
     rt: &'s R,
     serving: Serving<'s, L>,
-    mut seat: Seat<L>,
-    telling: GossipOptions,
-    key: Option<Key>,
+    telling: Telling<L>,
     service: &'s Service,
 ) -> Result<NodeServed, ServeFault>
 where
@@ -97,9 +133,7 @@ where
     let registry: &'s Registry<L> = serving.registry;
     let recorder: Option<&'s Recorder<L>> = serving.calls.recorder();
     let heard: &'s Peers = serving.heard;
-    let thread = scope.spawn(move || tell_peers(
-        rt, registry, recorder, &mut seat, &telling, heard, key, service,
-    ));
+    let thread = scope.spawn(move || tell(rt, registry, recorder, telling, heard, service));
     let served = serve_alone(rt, serving);
     service.end();
     if let Ok(thread) = thread {
@@ -108,15 +142,12 @@ where
     served
 }
 
-/// Serves a node, and meanwhile tells its peers what they don't know, with the key, if there is one, from
-/// a seat of its own in a second thread. Without peers, or where that thread can't be started, it is
-/// served without gossip.
+/// Serves a node, and meanwhile tells its peers what they don't know, from a seat of its own in a second
+/// thread. Without peers, or where that thread can't be started, it is served without gossip.
 pub fn serve_and_tell<L, R>(
     rt: &R,
     serving: Serving<'_, L>,
-    seat: Seat<L>,
-    telling: GossipOptions,
-    key: Option<Key>,
+    telling: Telling<L>,
 ) -> Result<NodeServed, ServeFault>
 where
     L: Label + Send + Sync,
@@ -124,7 +155,7 @@ where
     ensures ok { IfOk result (IsNodeServed serving.entry.requests) }
     ensures err { IfErr result (λ f. (f ≡ AcceptFailed) ⊎ (f ≡ OutOfMemory)) }
 {
-    if telling.peers.is_empty() || telling.rounds == 0 {
+    if !telling.is_wanted() {
         return serve_alone(rt, serving);
     }
     let service = Service::new();
@@ -135,6 +166,6 @@ where
         |scope| -> Result<NodeServed, ServeFault>
             ensures ok { IfOk result (IsNodeServed serving.entry.requests) }
             ensures err { IfErr result (λ f. (f ≡ AcceptFailed) ⊎ (f ≡ OutOfMemory)) }
-        { serve_in(scope, rt, serving, seat, telling, key, service) },
+        { serve_in(scope, rt, serving, telling, service) },
     )
 }
