@@ -139,7 +139,7 @@ pub(crate) fn keep_telling<L, R, W>(
     rt: &R,
     registry: &Registry<L>,
     seat: &mut Seat<L>,
-    wire: &mut W,
+    mut wire: W,
     telling: &GossipOptions,
     heard: &Peers,
     service: &Service,
@@ -147,7 +147,7 @@ pub(crate) fn keep_telling<L, R, W>(
 where
     L: Label,
     R: Wait + AllocGlobal + Clock + Eprint,
-    W: Reach + ServedWire,
+    W: Reach + ServedWire + Drop,
     ensures rounds { AreTold telling.now.rights L.config L.seed L.keeps L.parts
         telling.now.rounds seat.old seat.new [] }
     ensures few { telling.now.rights ≡ Stay
@@ -155,7 +155,7 @@ where
 {
     if let Ok(mut paces) = first_paces(rt, registry, &telling.peers) {
         tell_rounds(
-            rt, registry, seat, wire, &mut paces, telling, heard, service,
+            rt, registry, seat, &mut wire, &mut paces, telling, heard, service,
         );
     }
 }

@@ -39,14 +39,14 @@ where
     ensures few { telling.now.rights ≡ Stay
         → seat.new ≤ seat.old + telling.now.rounds * most_calls L.config }
 {
-    let Ok(mut wire) = wire_to(rt, &telling.peers, key) else {
+    let Ok(wire) = wire_to(rt, &telling.peers, key) else {
         return;
     };
     match recorder {
         Some(recorder) => {
-            let mut wire = RecordingWire::new(wire, registry, recorder);
-            keep_telling(rt, registry, seat, &mut wire, telling, heard, service);
+            let wire = RecordingWire::new(wire, registry, recorder);
+            keep_telling(rt, registry, seat, wire, telling, heard, service);
         }
-        None => keep_telling(rt, registry, seat, &mut wire, telling, heard, service),
+        None => keep_telling(rt, registry, seat, wire, telling, heard, service),
     }
 }

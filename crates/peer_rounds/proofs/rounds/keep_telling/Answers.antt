@@ -15,5 +15,5 @@ tell_rounds-requires-clause-few g c =
     let long = ap length c.deref_mut.ensures.value in
     omega (arith, long, few)
 
-pub returns-in_default-clause-rounds : goal.returns-in_default-clause-rounds
-returns-in_default-clause-rounds g c = sharing.ended
+pub returns-clause-rounds : goal.returns-clause-rounds
+returns-clause-rounds g c = sharing.ended
