@@ -1,13 +1,14 @@
 -- What is sent when one message more is posted.
-use Rattle.std.proofs.Common.{◌≡◌, ◌≢◌, ◌==◌, ℕ, Bool, true, false, if◌then◌else◌, List, [], ◌∷◌, ◌++◌, Option, Some, None, length, map, ap, ap₂, sym, ◌∙◌, refl, arith}
+use Rattle.std.proofs.Common.{◌≡◌, ◌==◌, ℕ, if◌then◌else◌, List, [], ◌∷◌, ◌++◌, Option, Some, None, length, map, ap, ap₂, sym, ◌∙◌, refl, arith}
 use Rattle.std.proofs.lemmas.List.{map-append}
 use Rattle.gossip.proofs.RangeLemmas.{unequal}
 use Rattle.gossip.specs.Traffic.{Traffic, sends}
-use Rattle.http_wire.specs.declared.key.Key.{Key}
-use Rattle.http_wire.specs.declared.posting.Posted.{Posted}
-use Rattle.http_wire.specs.declared.wire.Peer.{Peer}
-use Rattle.http_wire.specs.Posts.{Posts}
-use Rattle.http_wire.specs.Sent.{IsSentTo, bytes_or_none, posted_value, traffic_of}
+use Rattle.http_posts.specs.declared.key.Key.{Key}
+use Rattle.http_posts.specs.declared.answer.Posted.{Posted}
+use Rattle.http_posts.specs.declared.peer.Peer.{Peer}
+use Rattle.std.specs.declared.net.socket_addr.SocketAddr.{SocketAddr}
+use Rattle.http_wire.specs.Peers.{address_of}
+use Rattle.http_wire.specs.Sent.{IsPostedTo, IsSentTo, bytes_or_none, peer_at, posted_value, traffic_of}
 
 whole : (message : List ℕ) → bytes_or_none (if length message == 0 then None else Some message) ≡ message
 whole [] = refl
@@ -26,3 +27,16 @@ sent_more {message = message} {was = was} s =
     ∙ ap (λ p. map posted_value was ++ p ∷ [])
     (ap₂ (λ n b. (n, b)) s.node (ap bytes_or_none s.posts.body ∙ whole message))
     )
+
+-- a message that was posted to the peer at a node's address was sent to the node
+pub sent_at : {peers : List Peer} {key : Option Key} {to : ℕ} {address : SocketAddr} {message : List ℕ}
+    {was now : List Posted} → address_of peers to ≡ Some address → IsPostedTo (peer_at to address) key message was now →
+    IsSentTo peers key to message was now
+sent_at is p = record {
+  last = p.last;
+  more = p.more;
+  node = ap (λ peer. peer.node) p.peer;
+  address = is ∙ ap (λ peer. Some peer.address) (sym p.peer);
+  posts = p.posts;
+  status = p.status;
+}

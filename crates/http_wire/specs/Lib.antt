@@ -1,7 +1,5 @@
 pub mod Failures
-pub mod Forgetting
-pub mod Keys
+pub mod Hearing
 pub mod Peers
-pub mod Posts
 pub mod Reached
 pub mod Sent

@@ -2,7 +2,7 @@
 use Rattle.std.specs.Prelude.{ℕ, ◌==◌, Bool, List, Option, option_map, is_some}
 use Rattle.std.specs.List.{find}
 use Rattle.std.specs.declared.net.socket_addr.SocketAddr.{SocketAddr}
-use Rattle.http_wire.specs.declared.wire.Peer.{Peer}
+use Rattle.http_posts.specs.declared.peer.Peer.{Peer}
 
 -- the address of a node: of two peers with its number, the first one's
 abbrev pub address_of : List Peer → ℕ → Option SocketAddr

@@ -1,13 +1,9 @@
-//! Messages between nodes of different programs, over HTTP.
+//! A wire of gossip to nodes of other programs, over HTTP.
 #![tactic(auto)]
 
-mod fields;
-mod forgetting;
-mod key;
-mod posting;
+mod forgetful;
 mod wire;
 
-pub use forgetting::{Forgetful, Forgetting};
-pub use key::Key;
-pub use posting::POST_SECONDS;
-pub use wire::{HttpWire, Peer};
+pub use forgetful::Forgetful;
+pub use http_posts::{Forgetting, Key, POST_SECONDS, Peer};
+pub use wire::HttpWire;

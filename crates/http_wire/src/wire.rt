@@ -4,30 +4,21 @@ ghost use Rattle.std.specs.Prelude.{◌≡◌, ◌↔◌, ◌⊎◌, [], true, f
 ghost use Rattle.std.specs.Prelude.{OnOk};
 ghost use Rattle.std.specs.Bool.{OnTrue};
 ghost use Rattle.gossip.specs.Traffic.{sends, takes};
-ghost use Rattle.http_wire.specs.Failures.{IsFailure};
-ghost use Rattle.http_wire.specs.Forgetting.{HasHeardOf};
+ghost use Rattle.http_wire.specs.Failures.{IsFailure, failure_of};
+ghost use Rattle.http_wire.specs.Hearing.{HasHeardOf};
 ghost use Rattle.http_wire.specs.Peers.{address_of, has_peer};
 ghost use Rattle.http_wire.specs.Reached.{is_ready_for};
-ghost use Rattle.http_wire.specs.Sent.{IsHelloTo, IsSentTo, peer_at, traffic_of};
+ghost use Rattle.http_wire.specs.Sent.{IsHelloTo, IsPostedTo, IsSentTo, peer_at, traffic_of};
 
-use crate::forgetting::{Forgetful, Forgetting};
-use crate::key::Key;
-use crate::posting::{Connection, Posted, connect, failed, post, post_hello, taken_in};
+use crate::forgetful::{Forgetful, hear};
 use gossip::{Log, Reach, Wire, WireError};
+use http_posts::{Connection, Key, Peer, PostError, Posted, Poster};
 use std::alloc::{AllocGlobal, Global};
 use std::mem;
 use std::net::{Net, SocketAddr};
 use std::random::RandomSource;
 use std::sync::Wait;
 use std::time::Clock;
-use tokio::runtime::LocalRuntime;
-
-/// Where another node is served.
-#[derive(Clone, Copy, Debug, PartialEq, Eq)]
-pub struct Peer {
-    pub node: u8,
-    pub address: SocketAddr,
-}
 
 /// Sends each message as `POST /gossip` to the server of its node, with the key, if there is one, over a
 /// connection of its own, in at most `POST_SECONDS`. It brings none: a node's messages come to its own server. A node
@@ -39,8 +30,7 @@ pub struct Peer {
 /// isn't there, though its server may have it.
 #[derive(Drop)]
 pub struct HttpWire<R> {
-    rt: R,
-    runtime: LocalRuntime,
+    poster: Poster<R>,
     peers: Vec<Peer>,
     key: Option<Key>,
     // To the node that was reached last, if nothing was sent to it yet.
@@ -51,16 +41,13 @@ pub struct HttpWire<R> {
     forgetful: Vec<Forgetful>,
 }
 
-// Keeps what the answer of a node says of it, unless that is kept already.
-fn hear(forgetful: &mut Vec<Forgetful>, node: u8, says: Option<Forgetting>)
-    ensures { HasHeardOf node forgetful.old.items forgetful.new.items }
+// As what fails that isn't posted.
+fn failure_of(error: PostError) -> WireError
+    ensures { result ≡ failure_of error }
 {
-    let Some(fault) = says else {
-        return;
-    };
-    if !forgetful.iter().any(|other| other.node == node) {
-        // Without memory for it it isn't heard.
-        let _ = forgetful.push(Forgetful { node, fault });
+    match error {
+        PostError::Failed => WireError::Failed,
+        PostError::OutOfMemory => WireError::OutOfMemory,
     }
 }
 
@@ -97,13 +84,12 @@ impl<R: Wait + Clock + Net + RandomSource + AllocGlobal + Drop> HttpWire<R> {
         ensures forgetful { IfOk result (λ wire. wire.forgetful.items ≡ []) }
         ensures err { IfErr result IsFailure }
     {
-        let runtime = LocalRuntime::new(&rt).map_err(failed)?;
+        let forgetful = Vec::new(rt.alloc());
+        let poster = Poster::new(rt).map_err(failure_of)?;
         let sent = Log::new();
         let hellos = Log::new();
-        let forgetful = Vec::new(rt.alloc());
         Ok(HttpWire {
-            rt,
-            runtime,
+            poster,
             peers,
             key,
             ready: None,
@@ -114,9 +100,8 @@ impl<R: Wait + Clock + Net + RandomSource + AllocGlobal + Drop> HttpWire<R> {
     }
 
     // A connection to a peer: the one that is ready, where it leads there, else a new one.
-    fn connection_to(&mut self, peer: Peer) -> Result<Connection, WireError>
+    fn connection_to(&mut self, peer: Peer) -> Result<Connection, PostError>
         ensures ok { IfOk result (λ connection. connection.peer ≡ peer) }
-        ensures err { IfErr result IsFailure }
         ensures stays { (self.new.peers ≡ self.old.peers) × (self.new.sent ≡ self.old.sent)
             × (self.new.forgetful ≡ self.old.forgetful) }
         ensures key { self.new.key ≡ self.old.key }
@@ -126,12 +111,29 @@ impl<R: Wait + Clock + Net + RandomSource + AllocGlobal + Drop> HttpWire<R> {
                 return Ok(connection);
             }
         }
-        connect(&self.rt, &mut self.runtime, peer)
+        self.poster.connect(peer)
+    }
+
+    // Posts a message to a peer.
+    fn post_to(&mut self, alloc: Global, peer: Peer, message: &[u8]) -> Result<(), PostError>
+        ensures stays { self.new.peers ≡ self.old.peers }
+        ensures key { self.new.key ≡ self.old.key }
+        ensures posted { OnOk result
+            (IsPostedTo peer self.old.key message.now self.old.sent.items self.new.sent.items) }
+        ensures unsent { OnErr result (self.new.sent.items ≡ self.old.sent.items) }
+        ensures heard { HasHeardOf peer.node self.old.forgetful.items self.new.forgetful.items }
+    {
+        let connection = self.connection_to(peer)?;
+        let key = self.key.as_ref();
+        let told = self.poster.post(alloc, connection, key, message)?;
+        hear(&mut self.forgetful, peer.node, told.says);
+        told.taken_in()?;
+        self.sent.add(&told.posted);
+        Ok(())
     }
 
     // Posts a hello to a peer.
-    fn ask_peer(&mut self, alloc: Global, own: u8, peer: Peer) -> Result<(), WireError>
-        ensures err { IfErr result IsFailure }
+    fn ask_peer(&mut self, alloc: Global, own: u8, peer: Peer) -> Result<(), PostError>
         ensures stays { (self.new.peers ≡ self.old.peers) × (self.new.sent ≡ self.old.sent)
             × (self.new.forgetful ≡ self.old.forgetful) }
         ensures key { self.new.key ≡ self.old.key }
@@ -139,11 +141,11 @@ impl<R: Wait + Clock + Net + RandomSource + AllocGlobal + Drop> HttpWire<R> {
             (IsHelloTo peer self.old.key own self.old.hellos.items self.new.hellos.items) }
         ensures unsent { OnErr result (self.new.hellos.items ≡ self.old.hellos.items) }
     {
-        let connection = connect(&self.rt, &mut self.runtime, peer)?;
-        let asked = self.key.as_ref();
-        let told = post_hello(&self.rt, alloc, &mut self.runtime, connection, asked, own)?;
-        taken_in(told.status)?;
-        self.hellos.add(&told.posted);
+        let connection = self.poster.connect(peer)?;
+        let asking = self.key.as_ref();
+        let asked = self.poster.post_hello(alloc, connection, asking, own)?;
+        asked.taken_in()?;
+        self.hellos.add(&asked.posted);
         Ok(())
     }
 
@@ -163,7 +165,10 @@ impl<R: Wait + Clock + Net + RandomSource + AllocGlobal + Drop> HttpWire<R> {
         ensures unsent { OnErr result (self.new.hellos.items ≡ self.old.hellos.items) }
     {
         match self.address_of(to) {
-            Some(address) => self.ask_peer(alloc, own, Peer { node: to, address }),
+            Some(address) => match self.ask_peer(alloc, own, Peer { node: to, address }) {
+                Ok(()) => Ok(()),
+                Err(error) => Err(failure_of(error)),
+            },
             None => Err(WireError::NoPeer),
         }
     }
@@ -198,14 +203,10 @@ impl<R: Wait + Clock + Net + RandomSource + AllocGlobal + Drop> Wire for HttpWir
         let Some(address) = self.address_of(to) else {
             return Err(WireError::NoPeer);
         };
-        let peer = Peer { node: to, address };
-        let connection = self.connection_to(peer)?;
-        let key = self.key.as_ref();
-        let told = post(&self.rt, alloc, &mut self.runtime, connection, key, message)?;
-        hear(&mut self.forgetful, to, told.says);
-        taken_in(told.status)?;
-        self.sent.add(&told.posted);
-        Ok(())
+        match self.post_to(alloc, Peer { node: to, address }, message) {
+            Ok(()) => Ok(()),
+            Err(error) => Err(failure_of(error)),
+        }
     }
 
     fn take<S: Wait>(&mut self, _rt: &S, _alloc: Global) -> Result<Option<Vec<u8>>, WireError>
@@ -237,7 +238,7 @@ impl<R: Wait + Clock + Net + RandomSource + AllocGlobal + Drop> Reach for HttpWi
         let Some(address) = self.address_of(to) else {
             return false;
         };
-        match connect(&self.rt, &mut self.runtime, Peer { node: to, address }) {
+        match self.poster.connect(Peer { node: to, address }) {
             Ok(connection) => {
                 self.ready = Some(connection);
                 true

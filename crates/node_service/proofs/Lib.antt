@@ -1,2 +1,0 @@
-mod RoundLemmas
-mod SharingRounds

@@ -3,5 +3,3 @@ pub mod Caps
 pub mod Endings
 pub mod Hearing
 pub mod KeyFiles
-pub mod Rounds
-pub mod Sharing

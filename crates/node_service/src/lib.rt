@@ -1,10 +1,9 @@
 //! A node as a service: it is served over HTTP, and its gossip runs beside it.
 #![tactic(auto)]
 
+mod calls;
 mod ended;
 mod fault;
-mod forgetful;
-mod host;
 mod key_file;
 mod recording;
 mod serving;

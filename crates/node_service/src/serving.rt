@@ -8,15 +8,17 @@ ghost use Rattle.node_service.specs.Endings.{IsNodeServed};
 ghost use Rattle.node_service.specs.Hearing.{IsHeardBy};
 ghost use Rattle.node_service.specs.declared.fault.ServiceFault.TheVariants.{Node};
 
+use crate::calls::Calls;
 use crate::ended::NodeServed;
 use crate::fault::ServiceFault;
-use crate::host::Host;
 use crate::key_file::{Keyed, keyed_by};
-use crate::telling::{Serving, serve_and_tell};
-use command_line::{ServeOptions, Start};
+use crate::recording::gone_on;
+use crate::telling::{Serving, Telling, serve_and_tell};
+use command_line::{PartOptions, ServeOptions, Start};
 use http_serve::{Ending, Hearing, Peers, ServeFault};
 use node_core::{Config, MAX_TRACE_CAP, NodeFault};
 use node_registry::{Label, Registry, Seat};
+use peer_rounds::Host;
 use std::alloc::{AllocGlobal, Global};
 use std::fs::{File, Files};
 use std::io::Write;
@@ -58,10 +60,10 @@ where
     })) → IsErrAnd result (λ f. (f ≡ Node NodeFault.OutOfMemory) ⊎ (f ≡ Node NodeFault.BadConfig)) }
 {
     let config = config_of(options.node, options.nodes, options.cap);
-    serve_registry::<Brand, R>(rt, Blank::new(2), config, options)
+    serve_registry::<Brand, R>(rt, Blank::new(2), config, options, None)
 }
 
-// The configuration of a node that is served.
+/// The configuration of a node that is served.
 pub(crate) fn config_of(node: u8, nodes: u8, cap: Option<u32>) -> Config
     ensures { result ≡ record { node = node; nodes = nodes; trace_cap = cap_of cap } }
 {
@@ -72,12 +74,44 @@ pub(crate) fn config_of(node: u8, nodes: u8, cap: Option<u32>) -> Config
     }
 }
 
-// Serves the node of the registry that `L` names: what that is, the call above picks.
-fn serve_registry<L, R>(
+// The two seats of a registry: of its service, and of gossip.
+#[derive(Drop)]
+struct Seats<L: Label> {
+    serving: Seat<L>,
+    telling: Seat<L>,
+}
+
+// The registry of a node, with the seats from which it is called.
+fn opened<L: Label, R: Wait>(
+    rt: &R,
+    alloc: Global,
+    blank: Blank,
+    config: Config,
+) -> Result<(Arc<Registry<L>>, Seats<L>), NodeFault>
+    requires name { blank.name ≡ L.name }
+    requires parts { (blank.parts ≡ L.parts) × (L.parts ≡ 2) }
+    requires config { config ≡ L.config }
+    requires seed { replicate 32 0 ≡ L.seed }
+    ensures good { OnOk result (is_bad_config config ≡ false) }
+    ensures err { IfErr result (λ f. (f ≡ NodeFault.OutOfMemory)
+        ⊎ ((f ≡ NodeFault.BadConfig) × IsTrue (is_bad_config config))) }
+{
+    let (registry, mut seats) = Registry::<L>::start(rt, alloc, blank, config, [0; 32], 2)?;
+    let registry = Arc::new(alloc, registry)?;
+    match (seats.pop(), seats.pop()) {
+        (Some(serving), Some(telling)) => Ok((registry, Seats { serving, telling })),
+        _ => Err(NodeFault::OutOfMemory),
+    }
+}
+
+/// Serves the node of the registry that `L` names: what that is, the call above picks. It keeps its part, where
+/// one is given.
+pub(crate) fn serve_registry<L, R>(
     rt: &R,
     blank: Blank,
     config: Config,
     options: ServeOptions<'_>,
+    part: Option<PartOptions<'_>>,
 ) -> Result<NodeServed, ServiceFault>
 where
     L: Label + Send + Sync,
@@ -91,16 +125,18 @@ where
     ensures bad { IsTrue (is_bad_config config)
         → IsErrAnd result (λ f. (f ≡ Node NodeFault.OutOfMemory) ⊎ (f ≡ Node NodeFault.BadConfig)) }
 {
-    let (registry, seat, telling_seat) = opened::<L, R>(rt, rt.alloc(), blank, config)?;
-    serve_opened(rt, &registry, seat, telling_seat, options)
+    let (registry, seats) = opened::<L, R>(rt, rt.alloc(), blank, config)?;
+    match part {
+        Some(part) => serve_kept(rt, &registry, seats, options, part),
+        None => serve_forgotten(rt, &registry, seats, options),
+    }
 }
 
-// Serves a node from its first seat, and tells its peers from the other.
-fn serve_opened<L, R>(
+// Serves a node that forgets its calls.
+fn serve_forgotten<L, R>(
     rt: &R,
     registry: &Arc<Registry<L>>,
-    mut seat: Seat<L>,
-    telling_seat: Seat<L>,
+    seats: Seats<L>,
     options: ServeOptions<'_>,
 ) -> Result<NodeServed, ServiceFault>
 where
@@ -109,41 +145,92 @@ where
     requires { L.keeps ≡ false }
     ensures { IfOk result (IsNodeServed options.entry.requests) }
 {
-    let Keyed { access, key } = keyed_by(rt, options.key_file)?;
-    let (mut runtime, listener) = begun(
+    let Seats { serving, telling } = seats;
+    let keyed = keyed_by(rt, options.key_file)?;
+    let first = options.failpoints;
+    serve_opened(
         rt,
         registry,
-        &mut seat,
-        options.listen,
-        options.failpoints,
-    )?;
-    let heard = heard_by(
-        rt.alloc(),
-        options.node,
-        options.nodes,
-        options.telling.start,
-    )?;
-    let ending = Ending::new(rt.alloc()).map_err(NodeFault::from)?;
+        Calls::Forgotten(serving),
+        telling,
+        keyed,
+        first,
+        options,
+    )
+}
+
+// Has a node go on from its part, and serves it. Its first points are set where the part has no call.
+fn serve_kept<L, R>(
+    rt: &R,
+    registry: &Arc<Registry<L>>,
+    seats: Seats<L>,
+    options: ServeOptions<'_>,
+    part: PartOptions<'_>,
+) -> Result<NodeServed, ServiceFault>
+where
+    L: Label + Send + Sync,
+    R: Host + Files<File = File> + Print,
+    requires { L.keeps ≡ false }
+    ensures { IfOk result (IsNodeServed options.entry.requests) }
+{
+    let Seats { serving, telling } = seats;
+    let keyed = keyed_by(rt, options.key_file)?;
+    let (recorder, calls) = gone_on(rt, registry, serving, part)?;
+    let first = if calls == 0 { options.failpoints } else { None };
+    serve_opened(
+        rt,
+        registry,
+        Calls::Kept(&recorder),
+        telling,
+        keyed,
+        first,
+        options,
+    )
+}
+
+// Sets a node's first points, serves it, and tells its peers from the other seat.
+fn serve_opened<'a, L, R>(
+    rt: &R,
+    registry: &'a Arc<Registry<L>>,
+    mut calls: Calls<'a, L>,
+    seat: Seat<L>,
+    keyed: Keyed,
+    first_points: Option<&str>,
+    options: ServeOptions<'_>,
+) -> Result<NodeServed, ServiceFault>
+where
+    L: Label + Send + Sync,
+    R: Host + Print,
+    requires { L.keeps ≡ false }
+    ensures { IfOk result (IsNodeServed options.entry.requests) }
+{
+    let Begun {
+        mut runtime,
+        listener,
+        heard,
+        ending,
+    } = begin(rt, registry, &mut calls, &options, first_points)?;
+    let Keyed { access, key } = keyed;
     let serving = Serving {
         runtime: &mut runtime,
         registry,
-        seat,
+        calls,
         heard: &heard,
         access,
         listener,
         requests: options.requests,
         ending: &ending,
     };
-    Ok(serve_and_tell(rt, serving, telling_seat, options.telling, key)?)
+    let telling = Telling {
+        seat,
+        options: options.telling,
+        key,
+    };
+    Ok(serve_and_tell(rt, serving, telling)?)
 }
 
 // Whom a node has heard that begins: nobody.
-pub(crate) fn heard_by(
-    alloc: Global,
-    node: u8,
-    nodes: u8,
-    start: Start,
-) -> Result<Arc<Peers>, NodeFault>
+fn heard_by(alloc: Global, node: u8, nodes: u8, start: Start) -> Result<Arc<Peers>, NodeFault>
     ensures { IfOk result (λ heard. IsHeardBy node nodes start (arc_value heard)) }
 {
     let hearing = match start {
@@ -153,76 +240,62 @@ pub(crate) fn heard_by(
     Ok(Peers::new(alloc, node, nodes, hearing)?)
 }
 
+// Where a node is served, whom it has heard, and where its service is ended.
+#[derive(Drop)]
+struct Begun {
+    runtime: Runtime,
+    listener: TcpListener,
+    heard: Arc<Peers>,
+    ending: Arc<Ending>,
+}
+
 // Listens for the node, says where, and sets its first points.
-fn begun<L, R>(
+fn begin<L, R>(
     rt: &R,
     registry: &Registry<L>,
-    seat: &mut Seat<L>,
-    listening: SocketAddr,
-    failpoints: Option<&str>,
-) -> Result<(Runtime, TcpListener), ServiceFault>
+    calls: &mut Calls<'_, L>,
+    options: &ServeOptions<'_>,
+    first_points: Option<&str>,
+) -> Result<Begun, ServiceFault>
 where
     L: Label,
     R: Host + Print,
 {
-    match listen(rt, listening) {
-        Ok((runtime, listener, port)) => {
-            say_and_set(rt, registry, seat, port, failpoints)?;
-            Ok((runtime, listener))
-        }
-        Err(_) => Err(ServiceFault::Serve(ServeFault::BindFailed)),
+    let alloc = rt.alloc();
+    let (runtime, listener) = listening(rt, options.listen)?;
+    if let Some(text) = first_points {
+        calls.set_first(rt, alloc, registry, text)?;
     }
+    let heard = heard_by(alloc, options.node, options.nodes, options.telling.start)?;
+    let ending = Ending::new(alloc).map_err(NodeFault::from)?;
+    Ok(Begun {
+        runtime,
+        listener,
+        heard,
+        ending,
+    })
 }
 
-// Says where the node is served, and then sets its first points.
-fn say_and_set<L, R>(
-    rt: &R,
-    registry: &Registry<L>,
-    seat: &mut Seat<L>,
-    port: u16,
-    failpoints: Option<&str>,
-) -> Result<(), ServiceFault>
+// Listens at an address, and says at which port.
+fn listening<R>(rt: &R, address: SocketAddr) -> Result<(Runtime, TcpListener), ServiceFault>
 where
-    L: Label,
-    R: Wait + AllocGlobal + Print,
+    R: Host + Print,
 {
+    let Ok((runtime, listener, port)) = listen(rt, address) else {
+        return Err(ServiceFault::Serve(ServeFault::BindFailed));
+    };
     say_where(rt, port)?;
-    if let Some(text) = failpoints {
-        registry.load(rt, rt.alloc(), seat, text)?;
-    }
-    Ok(())
+    Ok((runtime, listener))
 }
 
 // Says on which port the node is served, so that whoever started it needn't wait.
-pub(crate) fn say_where<R: Print>(rt: &R, port: u16) -> io::Result<()> {
+fn say_where<R: Print>(rt: &R, port: u16) -> io::Result<()> {
     println!(rt; "listening {port}")?;
     io::writer(rt).flush()
 }
 
-// The registry of a node, with the two seats from which it is called.
-fn opened<L: Label, R: Wait>(
-    rt: &R,
-    alloc: Global,
-    blank: Blank,
-    config: Config,
-) -> Result<(Arc<Registry<L>>, Seat<L>, Seat<L>), NodeFault>
-    requires name { blank.name ≡ L.name }
-    requires parts { (blank.parts ≡ L.parts) × (L.parts ≡ 2) }
-    requires config { config ≡ L.config }
-    requires seed { replicate 32 0 ≡ L.seed }
-    ensures good { OnOk result (is_bad_config config ≡ false) }
-    ensures err { IfErr result (λ f. (f ≡ NodeFault.OutOfMemory)
-        ⊎ ((f ≡ NodeFault.BadConfig) × IsTrue (is_bad_config config))) }
-{
-    let (registry, mut seats) = Registry::<L>::start(rt, alloc, blank, config, [0; 32], 2)?;
-    match (Arc::new(alloc, registry), seats.pop(), seats.pop()) {
-        (Ok(registry), Some(first), Some(second)) => Ok((registry, first, second)),
-        _ => Err(NodeFault::OutOfMemory),
-    }
-}
-
 // Listens at an address, and answers at which port.
-pub(crate) fn listen<R>(rt: &R, address: SocketAddr) -> io::Result<(Runtime, TcpListener, u16)>
+fn listen<R>(rt: &R, address: SocketAddr) -> io::Result<(Runtime, TcpListener, u16)>
 where
     R: Host,
 {

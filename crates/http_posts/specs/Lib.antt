@@ -1,0 +1,6 @@
+pub mod Answers
+pub mod Bodies
+pub mod FaultText
+pub mod Forgetting
+pub mod Keys
+pub mod Posts

@@ -1,0 +1,96 @@
+//! What posts.
+
+ghost use Rattle.std.specs.Prelude.{◌≡◌, option_copied, IfOk};
+ghost use Rattle.http_posts.specs.Answers.{IsAnswered};
+ghost use Rattle.http_posts.specs.Posts.{Posts, PostsHello};
+
+use crate::answer::{Exchanged, answered};
+use crate::connection::{Connection, POST_SECONDS};
+use crate::fault::PostError;
+use crate::key::Key;
+use crate::peer::Peer;
+use crate::request::request;
+use crate::waiting::output_of;
+use itoa::Buffer;
+use std::alloc::{AllocGlobal, Global};
+use std::net::Net;
+use std::random::RandomSource;
+use std::sync::Wait;
+use std::time::{Clock, Duration, Instant};
+use tokio::net::TcpStream;
+use tokio::runtime::LocalRuntime;
+
+/// Posts messages, one after the other: a system, and the runtime in which its calls wait.
+#[derive(Drop)]
+pub struct Poster<R> {
+    rt: R,
+    runtime: LocalRuntime,
+}
+
+impl<R: Wait + Clock + Net + RandomSource + AllocGlobal + Drop> Poster<R> {
+    /// One that waits by this system.
+    pub fn new(rt: R) -> Result<Poster<R>, PostError>
+        ensures { IfOk result (λ poster. poster.rt ≡ rt) }
+    {
+        let runtime = LocalRuntime::new(&rt)?;
+        Ok(Poster { rt, runtime })
+    }
+
+    /// Connects to the address of a peer, within `POST_SECONDS`, in which a message over it is to be answered too.
+    pub fn connect(&mut self, peer: Peer) -> Result<Connection, PostError>
+        ensures ok { IfOk result (λ connection. connection.peer ≡ peer) }
+        ensures stays { self.new.rt ≡ self.old.rt }
+    {
+        let now = Instant::now(&self.rt)?;
+        let Some(deadline) = now.checked_add(Duration::from_secs(POST_SECONDS)) else {
+            return Err(PostError::Failed);
+        };
+        let reactor = self.runtime.handle().reactor();
+        let connecting = TcpStream::connect(&self.rt, peer.address, reactor);
+        let stream = output_of(&self.rt, &mut self.runtime, connecting, deadline)??;
+        Ok(Connection {
+            peer,
+            stream,
+            deadline,
+        })
+    }
+
+    /// Posts a message to the server of a peer over a connection to it, with the key, if there is one, and answers
+    /// what was posted and answered. No reply within the connection's time is `Failed`.
+    pub fn post(
+        &mut self,
+        alloc: Global,
+        connection: Connection,
+        key: Option<&Key>,
+        message: &[u8],
+    ) -> Result<Exchanged, PostError>
+        ensures to { IfOk result (λ told. told.posted.peer ≡ connection.peer) }
+        ensures posts { IfOk result (λ told. Posts connection.peer.address (option_copied key.entry)
+            message.now told.posted.request.value) }
+        ensures answered { IfOk result IsAnswered }
+        ensures stays { self.new.rt ≡ self.old.rt }
+    {
+        let request = request(alloc, "/gossip", connection.peer.address, key, message)?;
+        answered(&self.rt, alloc, &mut self.runtime, connection, request)
+    }
+
+    /// Posts the number of a node that wants to be told to the server of a peer, as `post` does a message.
+    pub fn post_hello(
+        &mut self,
+        alloc: Global,
+        connection: Connection,
+        key: Option<&Key>,
+        node: u8,
+    ) -> Result<Exchanged, PostError>
+        ensures to { IfOk result (λ told. told.posted.peer ≡ connection.peer) }
+        ensures posts { IfOk result (λ told. PostsHello connection.peer.address
+            (option_copied key.entry) node told.posted.request.value) }
+        ensures answered { IfOk result IsAnswered }
+        ensures stays { self.new.rt ≡ self.old.rt }
+    {
+        let mut buffer = Buffer::new();
+        let number = buffer.format(node).as_bytes();
+        let request = request(alloc, "/hello", connection.peer.address, key, number)?;
+        answered(&self.rt, alloc, &mut self.runtime, connection, request)
+    }
+}

@@ -1,4 +1,0 @@
-use Rattle.node_service.proofs.recording.serve_alone.Goals as goal
-
-pub returns-clause-ok : goal.returns-clause-ok
-returns-clause-ok g c = c.of.ensures c.args.recorded.requests c.in_ok-served.ensures.ok

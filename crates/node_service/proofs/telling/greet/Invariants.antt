@@ -1,5 +1,0 @@
-use Rattle.std.proofs.Common.{◌≡◌, length}
-use Rattle.node_service.proofs.telling.greet.Given as goal
-
-abbrev pub invariant-loop-pace : goal.invariant-loop-pace
-invariant-loop-pace g l = length l.paces ≡ length l.initial.paces

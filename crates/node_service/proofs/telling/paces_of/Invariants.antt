@@ -1,6 +1,0 @@
-use Rattle.std.proofs.Common.{◌≡◌, map}
-use Rattle.node_service.specs.Rounds.{first_pace, told_below}
-use Rattle.node_service.proofs.telling.paces_of.Given as goal
-
-abbrev pub invariant-loop-other : goal.invariant-loop-other
-invariant-loop-other l = l.paces.items ≡ map first_pace (told_below l.fn.node l.other l.fn.named)

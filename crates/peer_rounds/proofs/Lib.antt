@@ -1,0 +1,2 @@
+mod RoundLemmas
+mod SharingRounds
