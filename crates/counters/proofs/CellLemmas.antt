@@ -1,11 +1,11 @@
 -- What the entries of a map of rows say of their cells, and how large all cells are together.
-use Rattle.std.specs.Prelude.{◌≡◌, ◌≢◌, ◌<◌, ◌≤◌, ◌+◌, ◌*◌, ◌^◌, ◌==◌, ℕ, Bool, true, false, cond, List, [], ◌∷◌, length, slice_index, zero}
+use Rattle.std.specs.Prelude.{◌≡◌, ◌≢◌, ◌<◌, ◌≤◌, ◌+◌, ◌*◌, ◌^◌, ◌==◌, ℕ, Bool, true, false, cond, List, [], ◌∷◌, length, slice_index}
 use Rattle.std.specs.Ordering.{nat_cmp, eq_by_cmp}
 use Rattle.std.specs.Map.{keys_of}
 use Rattle.std.specs.List.{IsDistinct}
 use Rattle.std.specs.List.Sorted.{IsStrictlySortedBy}
 use Rattle.std.proofs.lemmas.Map.Keys.{IsDistinct-from_sorted, IsDistinct-tail}
-use Rattle.std.proofs.Common.{ap, arith, refl, subst, sym, ◌∙◌}
+use Rattle.std.proofs.Common.{arith, refl, subst, sym}
 use Rattle.std.proofs.lemmas.Bool.{eqb-false, eqb-true}
 use Rattle.std.proofs.lemmas.List.{get_or_past}
 use Rattle.lattice_laws.specs.Map.{IsMap, admitted_at, value_at}
@@ -42,20 +42,7 @@ numbers-is : node_numbers ≡ 256
 unfolding node_numbers
 numbers-is = refl
 
-zero-either : (t : Bool) → cond t 0 0 ≡ zero
-zero-either true = refl
-zero-either false = refl
-
--- and a row more its number at the node
-total_from_others-entry : (node k : ℕ) (v : Cells) (rest : Rows) → k < 256 → AreApart ((k, v) ∷ rest)
-    → sum_others node_numbers node (λ from. row_cell ((k, v) ∷ rest) from node)
-    ≡ cond (k == node) 0 (cell v node) + sum_others node_numbers node (λ from. row_cell rest from node)
-unfolding cell row_cell
-total_from_others-entry node k v rest below apart =
-    sum-entry [] node_numbers (λ q (held : Cells). cond (q == node) 0 (cell held node))
-    (λ q. zero-either (q == node)) k v rest (below-numbers k below) apart
-
--- and a row more its number at its own node
+-- a row more adds its number at its own node
 pub total_of_own-entry : (k : ℕ) (v : Cells) (rest : Rows) → k < 256 → AreApart ((k, v) ∷ rest)
     → sum_below node_numbers (λ node. row_cell ((k, v) ∷ rest) node node)
     ≡ cell v k + sum_below node_numbers (λ node. row_cell rest node node)
@@ -77,23 +64,6 @@ chosen-other i k n m ne = at (i == k) refl
     at : (t : Bool) → (i == k) ≡ t → cond t n m ≡ m
     at true e = absurd (ne (eqb-true i k e))
     at false e = refl
-
-pub total_from_others-counted : (node k : ℕ) (v : Cells) (rest : Rows) → k < 256 → AreApart ((k, v) ∷ rest) → k ≢ node
-    → sum_others node_numbers node (λ from. row_cell ((k, v) ∷ rest) from node)
-    ≡ cell v node + sum_others node_numbers node (λ from. row_cell rest from node)
-total_from_others-counted node k v rest below apart ne =
-    total_from_others-entry node k v rest below apart
-    ∙ ap (λ n. n + sum_others node_numbers node (λ from. row_cell rest from node))
-    (chosen-other k node 0 (cell v node) ne)
-
-pub total_from_others-left_out : (node k : ℕ) (v : Cells) (rest : Rows) → k < 256 → AreApart ((k, v) ∷ rest)
-    → k ≡ node
-    → sum_others node_numbers node (λ from. row_cell ((k, v) ∷ rest) from node)
-    ≡ 0 + sum_others node_numbers node (λ from. row_cell rest from node)
-total_from_others-left_out node k v rest below apart same =
-    total_from_others-entry node k v rest below apart
-    ∙ ap (λ n. n + sum_others node_numbers node (λ from. row_cell rest from node))
-    (chosen-same k node 0 (cell v node) same)
 
 -- each number is one of 64 bits
 pub cell-bound : (cells : Cells) → AreCells cells → (q : ℕ) → cell cells q < 2 ^ 64
@@ -148,11 +118,6 @@ pub total_of_others-bound : (node : ℕ) (cells : Cells) → AreCells cells →
     sum_others node_numbers node (cell cells) ≤ 256 * 2 ^ 64
 total_of_others-bound node cells h = bound-others node (cell cells) (cell-bound cells h)
 
-pub total_from_others-bound : (node : ℕ) (rows : Rows) → AreRows rows →
-    sum_others node_numbers node (λ from. row_cell rows from node) ≤ 256 * 2 ^ 64
-total_from_others-bound node rows h = bound-others node (λ from. row_cell rows from node)
-    (λ from. row_cell-bound rows h from node)
-
 pub total_of_own-bound : (rows : Rows) → AreRows rows → sum_below node_numbers (λ node. row_cell rows node node) ≤ 256 *
     2 ^ 64
 total_of_own-bound rows h = bound (λ node. row_cell rows node node) (λ node. row_cell-bound rows h node node)
@@ -167,10 +132,6 @@ went_from-bound node rows h = bound-others node (row_cell rows node) (λ to. row
 pub total_of_others-empty : (node : ℕ) → sum_others node_numbers node (cell []) ≡ 0
 unfolding cell
 total_of_others-empty node = sum_others-zero node_numbers node (λ q. 0) (λ q. refl)
-
-pub total_from_others-empty : (node : ℕ) → sum_others node_numbers node (λ from. row_cell [] from node) ≡ 0
-unfolding cell row_cell
-total_from_others-empty node = sum_others-zero node_numbers node (λ q. 0) (λ q. refl)
 
 pub total_of_own-empty : sum_below node_numbers (λ node. row_cell [] node node) ≡ 0
 unfolding cell row_cell

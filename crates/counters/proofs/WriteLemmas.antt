@@ -61,10 +61,6 @@ pub found_row_cell : (rows : Rows) (from : ℕ) (held : Cells) → stored_at nat
 unfolding row_cell
 found_row_cell rows from held found q = ap (λ o. cell (unwrap_or o []) q) found
 
-pub unheld_row_cell : (rows : Rows) (from : ℕ) → stored_at nat_cmp rows from ≡ None → (q : ℕ) → row_cell rows from q ≡ 0
-unfolding row_cell
-unheld_row_cell rows from none q = ap (λ o. cell (unwrap_or o []) q) none ∙ empty_cell q
-
 -- a row that is put has the same cells
 put_row_cell : (rows : Rows) (from : ℕ) (left : Cells)
     → IsStored nat_cmp AreCells NoneGreater [] (stored_at nat_cmp rows from) left → (q : ℕ)

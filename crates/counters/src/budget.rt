@@ -9,8 +9,8 @@ ghost use Rattle.counters.specs.Cells.{WritesSpent, WritesMoved};
 ghost use Rattle.counters.specs.Refusals.{spend_refusal, shift_refusal, grant_refusal, too_great, IsRefusal};
 
 use crate::cells::{
-    Cells, Rows, add_rows, count, number_in_row, number_of, raise, raise_row, total,
-    total_from_others, total_of_own, total_to_others, write_negated, write_numbers,
+    Cells, Rows, add_rows, came_and_went, count, number_in_row, number_of, raise, raise_row, total,
+    total_of_own, write_negated, write_numbers,
 };
 use crate::fault::CounterFault;
 use lattice_laws::{Join, PairOf};
@@ -58,10 +58,9 @@ impl Budget {
         ensures { result ≡ rights (budget_of self.now setter count) node }
     {
         let own = if node == setter { u128::from(count) } else { 0 };
-        let granted = u128::from(self.granted(node));
-        let given = own + granted + total_from_others(&self.shares.second, node);
-        let spent = u128::from(self.spent(node));
-        let gone = total_to_others(&self.shares.second, node) + spent;
+        let (came, went) = came_and_went(&self.shares.second, node);
+        let given = own + came;
+        let gone = went + u128::from(self.spent(node));
         given as i128 - gone as i128
     }
 

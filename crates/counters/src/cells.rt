@@ -73,29 +73,22 @@ pub(crate) fn total_of_others(cells: &Cells, node: u8) -> u128
     others_of(total(cells), cells, node)
 }
 
-/// What a node's row has at the other nodes, together.
-pub(crate) fn total_to_others(rows: &Rows, node: u8) -> u128
-    ensures value { result ≡ sum_others node_numbers node (row_cell rows.now node) }
-    ensures small { result ≤ 256 * 2 ^ 64 }
+/// What came to a node by the rows, and what went from it to others: each row is read once.
+pub(crate) fn came_and_went(rows: &Rows, node: u8) -> (u128, u128)
+    ensures came { result.0 ≡ came_to rows.now node }
+    ensures went { result.1 ≡ went_from rows.now node }
+    ensures small_came { result.0 ≤ 256 * 2 ^ 64 }
+    ensures small_went { result.1 ≤ 256 * 2 ^ 64 }
 {
-    match rows.get(&node) {
-        Some(row) => total_of_others(row, node),
-        None => 0,
-    }
-}
-
-/// What the rows of the nodes other than this one have at this one, together.
-pub(crate) fn total_from_others(rows: &Rows, node: u8) -> u128
-    ensures value { result ≡ sum_others node_numbers node (λ from. row_cell rows.now from node) }
-    ensures small { result ≤ 256 * 2 ^ 64 }
-{
-    let mut sum = 0u128;
+    let mut came = 0u128;
+    let mut went = 0u128;
     for (from, row) in rows.iter() {
-        if *from != node {
-            sum += u128::from(number_of(row, node));
+        if *from == node {
+            went += total_of_others(row, node);
         }
+        came += u128::from(number_of(row, node));
     }
-    sum
+    (came, went)
 }
 
 /// What each row has at its own node, together.

@@ -6,6 +6,8 @@ use std::alloc::{AllocError, AllocGlobal, Global};
 use std::fs;
 use std::fs::Files;
 
+ghost use Rattle.std.specs.Prelude.{◌≡◌, IfOk, None, true};
+
 /// The most nodes of a cluster.
 const MOST_NODES: u8 = 32;
 
@@ -33,7 +35,13 @@ fn kept_part<R: Files>(rt: &R, alloc: Global, folder: &str) -> Result<Option<Str
 fn kept_path<R: Files + AllocGlobal>(
     rt: &R,
     options: ThreadOptions<'_>,
-) -> Result<Option<String>, AllocError> {
+) -> Result<Option<String>, AllocError>
+    ensures forced { options.entry.force ≡ true → IfOk result (λ path. path ≡ None) }
+    ensures unkept {
+        options.entry.record ≡ None → options.entry.record_parts ≡ None →
+        IfOk result (λ path. path ≡ None)
+    }
+{
     if options.force {
         return Ok(None);
     }
@@ -54,7 +62,13 @@ fn kept_path<R: Files + AllocGlobal>(
 pub fn in_the_way<R: Files + AllocGlobal>(
     rt: &R,
     options: ThreadOptions<'_>,
-) -> Result<Option<String>, AllocError> {
+) -> Result<Option<String>, AllocError>
+    ensures forced { options.entry.force ≡ true → IfOk result (λ advice. advice ≡ None) }
+    ensures unkept {
+        options.entry.record ≡ None → options.entry.record_parts ≡ None →
+        IfOk result (λ advice. advice ≡ None)
+    }
+{
     let Some(path) = kept_path(rt, options)? else {
         return Ok(None);
     };

@@ -3,3 +3,4 @@ pub mod Caps
 pub mod Endings
 pub mod Hearing
 pub mod KeyFiles
+pub mod Kept

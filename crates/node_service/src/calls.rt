@@ -7,6 +7,9 @@ use part_keeper::{CallFault, Recorder};
 use std::alloc::Global;
 use std::sync::{Arc, Wait};
 
+ghost use Rattle.node_service.specs.Kept.{is_kept};
+ghost use Rattle.std.specs.Prelude.{◌≡◌, is_some};
+
 /// From where a served node is called.
 #[derive(Drop)]
 pub enum Calls<'a, L: Label> {
@@ -18,7 +21,9 @@ pub enum Calls<'a, L: Label> {
 
 impl<'a, L: Label> Calls<'a, L> {
     /// The recorder, where the part is kept.
-    pub(crate) fn recorder(&self) -> Option<&'a Recorder<L>> {
+    pub(crate) fn recorder(&self) -> Option<&'a Recorder<L>>
+        ensures { is_some result ≡ is_kept self.now }
+    {
         match self {
             Calls::Forgotten(_) => None,
             Calls::Kept(recorder) => {

@@ -3,10 +3,11 @@ use Rattle.std.proofs.Common.{arith, sym, ◌∙◌}
 use Rattle.std.proofs.lemmas.Int.{ints}
 use mir.Syntax.{w128}
 use mir.Val.{of_z, to_z}
-use Rattle.counters.specs.Sums.{node_numbers, sum_others}
+use Rattle.counters.specs.Sums.{node_numbers}
 use Rattle.counters.specs.Budgets.{given_to, gone_from}
-use Rattle.counters.specs.Cells.{budget_of, granted_cell, moved_cell, spent_cell}
-use Rattle.counters.proofs.CellLemmas.{chosen-other, chosen-same}
+use Rattle.counters.specs.Cells.{budget_of, came_to, moved_cell, spent_cell, went_from}
+use Rattle.counters.proofs.CellLemmas.{below-numbers, chosen-other, chosen-same}
+use Rattle.counters.proofs.SumLemmas.{sum_others-and}
 use Rattle.counters.proofs.budget.Budget.rights.Goals.{then-node-setter, else-node-setter}
 use Rattle.counters.proofs.budget.Budget.rights.Goals as goal
 
@@ -17,27 +18,23 @@ difference a b given gone e f p q = omega (arith, ints)
 
 pub returns : goal.returns
 returns c =
-    let budget = budget_of c.args.self.now c.args.setter c.args.count in
-    let own : c.if-node-setter.own ≡ cond (c.args.node == c.args.setter) c.args.count 0 = elim c.if-node-setter.branch [
+    let node = c.args.node in
+    let shares = c.args.self.now in
+    let budget = budget_of shares c.args.setter c.args.count in
+    let own : c.if-node-setter.own ≡ cond (node == c.args.setter) c.args.count 0 = elim c.if-node-setter.branch [
       | then-node-setter w ↦ w.own-is ∙ w.from-own.ensures ∙
-          sym (chosen-same c.args.node c.args.setter c.args.count 0 w.if-node-setter.true)
-      | else-node-setter w ↦ w.own-is ∙ sym (chosen-other c.args.node c.args.setter c.args.count 0
-          w.if-node-setter.false)
+          sym (chosen-same node c.args.setter c.args.count 0 w.if-node-setter.true)
+      | else-node-setter w ↦ w.own-is ∙ sym (chosen-other node c.args.setter c.args.count 0 w.if-node-setter.false)
     ] in
     let small : c.if-node-setter.own < 2 ^ 64 = elim c.if-node-setter.branch
     [ then-node-setter w ↦ omega arith | else-node-setter w ↦ omega arith ] in
-    let granted : c.from-granted.result ≡ granted_cell c.args.self.now c.args.node = c.from-granted.ensures ∙
-    c.granted.ensures in
-    let came : c.total_from_others.result
-    ≡ sum_others node_numbers c.args.node (λ from. moved_cell c.args.self.now from c.args.node) =
-    rw (← c.self.view_is) c.total_from_others.ensures.value in
-    let went : c.total_to_others.result ≡ sum_others node_numbers c.args.node (moved_cell c.args.self.now c.args.node) =
-    rw (← c.self.view_is) c.total_to_others.ensures.value in
-    let spent : c.from-spent.result ≡ spent_cell c.args.self.now c.args.node = c.from-spent.ensures ∙ c.spent.ensures in
-    difference (c.if-node-setter.own + c.from-granted.result + c.total_from_others.result)
-    (c.total_to_others.result + c.from-spent.result)
-    (given_to budget c.args.node) (gone_from budget c.args.node)
-    (λ i. own i + granted i + came i)
-    (λ i. went i + spent i)
-    (omega (arith, small, c.granted.type_inv, c.from-granted.ensures, c.total_from_others.ensures.small))
-    (omega (arith, c.total_to_others.ensures.small, c.spent.type_inv, c.from-spent.ensures))
+    let both = sum_others-and node_numbers node (λ from. moved_cell shares from node) (below-numbers node (omega arith)) in
+    let came : c.came_and_went-came.result.0 ≡ came_to shares.second node = rw (← c.self.view_is) c.came_and_went-came.ensures.came in
+    let went : c.came_and_went-came.result.1 ≡ went_from shares.second node = rw (← c.self.view_is) c.came_and_went-came.ensures.went in
+    let spent : c.from.result ≡ spent_cell shares node = c.from.ensures ∙ c.spent.ensures in
+    let given : c.if-node-setter.own + c.came_and_went-came.result.0 ≡ given_to budget node =
+    omega (arith, own, came, both) in
+    difference (c.if-node-setter.own + c.came_and_went-came.result.0) (c.came_and_went-came.result.1 + c.from.result)
+    (given_to budget node) (gone_from budget node) given (λ i. went i + spent i)
+    (omega (arith, small, c.came_and_went-came.ensures.small_came))
+    (omega (arith, c.came_and_went-came.ensures.small_went, c.spent.type_inv, c.from.ensures))
