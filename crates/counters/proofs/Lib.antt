@@ -6,3 +6,4 @@ pub mod CellLemmas
 pub mod Columns
 pub mod WriteLemmas
 pub mod CounterJoins
+pub mod AllRead

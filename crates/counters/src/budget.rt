@@ -1,18 +1,20 @@
 //! What the nodes spent of a budget, what each moved to each, and what each granted.
 
-ghost use Rattle.std.specs.Prelude.{◌≡◌, ◌≤◌, ◌+◌, ◌<◌, length, map, Some, None, IfOk, IfErr, OnOk, OnErr, max};
+ghost use Rattle.std.specs.Prelude.{◌≡◌, ◌↔◌, ◌≤◌, ◌+◌, ◌<◌, length, map, Some, None, IfOk, IfErr, OnOk, OnErr};
+ghost use Rattle.std.specs.Prelude.{◌∷◌, ◌<ℤ◌, [], max, false, pos, IsTrue};
 ghost use Rattle.std.specs.List.{range_with_len};
 ghost use Rattle.counters.specs.Sums.{node_numbers, sum_below};
-ghost use Rattle.counters.specs.Budgets.{rights};
+ghost use Rattle.counters.specs.Budgets.{rights, AllHaveRights};
 ghost use Rattle.counters.specs.Cells.{no_shares, spent_cell, moved_cell, granted_cell, budget_of};
 ghost use Rattle.counters.specs.Cells.{WritesSpent, WritesMoved};
 ghost use Rattle.counters.specs.Refusals.{spend_refusal, shift_refusal, grant_refusal, too_great, IsRefusal};
 
 use crate::cells::{
     Cells, Rows, add_rows, came_and_went, count, number_in_row, number_of, raise, raise_row, total,
-    total_of_own, write_negated, write_numbers,
+    total_of_others, total_of_own, write_negated, write_numbers,
 };
 use crate::fault::CounterFault;
+use crate::shortage::{are_above, are_some, only_row};
 use lattice_laws::{Join, PairOf};
 use std::alloc::{AllocError, Global};
 use std::marker::Model;
@@ -77,6 +79,23 @@ impl Budget {
         if place < into.len() {
             into[place] += i128::from(count);
         }
+    }
+
+    /// Whether each of the first nodes has a right, of as many as there are places. Where one has none,
+    /// the rights of all are written in the places, as `rights_of_all` writes them.
+    pub fn all_have_rights(&self, setter: u8, count: u64, into: &mut [i128]) -> bool
+        requires { length into.old ≤ 256 }
+        ensures len { length into.new ≡ length into.old }
+        ensures all { IsTrue result
+            ↔ AllHaveRights (rights (budget_of self.now setter count)) (length into.old) }
+        ensures rights { result ≡ false → into.new
+            ≡ map (rights (budget_of self.now setter count)) (range_with_len 0 (length into.old)) }
+    {
+        if self.surely_all_have(setter, count, into.len()) {
+            return true;
+        }
+        self.rights_of_all(setter, count, into);
+        are_some(into)
     }
 
     /// What a node spent.
@@ -234,6 +253,37 @@ impl Budget {
         ensures absent { OnErr result (granted_cell self.old node ≡ 0) }
     {
         self.raise_moved(alloc, node, node, total)
+    }
+
+    // That each of the first nodes has a right, as far as it can be told by one look at the rights
+    // that one node moved, where no other did: they cost least so, and mostly nobody is short.
+    fn surely_all_have(&self, setter: u8, count: u64, nodes: usize) -> bool
+        requires { nodes ≤ 256 }
+        ensures { IsTrue result → AllHaveRights (rights (budget_of self.now setter count)) nodes }
+    {
+        let Some((from, row)) = only_row(&self.shares.second) else {
+            return false;
+        };
+        let (came, spent) = (row.as_slice(), self.shares.first.as_slice());
+        let place = usize::from(from);
+        if !are_above(came, spent, 0, place.min(nodes)) {
+            return false;
+        }
+        if !are_above(came, spent, place + 1, nodes) {
+            return false;
+        }
+        self.mover_has_some(setter, count, from, row)
+    }
+
+    // That the only node that moved rights has some left.
+    fn mover_has_some(&self, setter: u8, count: u64, from: u8, row: &Cells) -> bool
+        requires { self.now.second ≡ (from, row.now) ∷ [] }
+        ensures { IsTrue result → pos 0 <ℤ rights (budget_of self.now setter count) from }
+    {
+        let own = if from == setter { u128::from(count) } else { 0 };
+        let given = own + u128::from(number_of(row, from));
+        let gone = total_of_others(row, from) + u128::from(self.spent(from));
+        gone < given
     }
 
     // What the node will have spent, or the refusal.

@@ -9,7 +9,9 @@ mod cells;
 mod fault;
 mod hits;
 pub mod laws;
+mod shortage;
 
 pub use budget::Budget;
 pub use fault::CounterFault;
 pub use hits::HitCounter;
+pub use shortage::are_some;
