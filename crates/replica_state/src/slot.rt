@@ -1,12 +1,12 @@
 //! What a matrix stores of one name.
 
 ghost use Rattle.std.specs.Prelude.{◌≡◌, ◌+◌, ◌<◌, ◌≤◌, ◌^◌, ◌==◌, if◌then◌else◌, pos, length, map};
-ghost use Rattle.std.specs.Prelude.{option_map, is_none, Some, None, OnOk};
+ghost use Rattle.std.specs.Prelude.{◌↔◌, ℕ, option_map, is_none, Some, None, OnOk, IsTrue};
 ghost use Rattle.std.specs.List.{range_with_len};
 ghost use Rattle.std.specs.Prelude.{OnErr, IfOk, IfNone, IfSome, IsSome, false};
 ghost use Rattle.counters.specs.Sums.{node_numbers, sum_below};
-ghost use Rattle.counters.specs.Budgets.{total_spent};
-ghost use Rattle.counters.specs.Cells.{spent_cell, WritesSpent};
+ghost use Rattle.counters.specs.Budgets.{rights, total_spent, AllHaveRights};
+ghost use Rattle.counters.specs.Cells.{budget_of, spent_cell, WritesSpent};
 ghost use Rattle.stamp_register.specs.Keys.{key_value};
 ghost use Rattle.replica_state.specs.Points.{empty_held, order_to_held, held_after_learning};
 ghost use Rattle.replica_state.specs.Points.{held_after_key, held_after_pass, held_after_count};
@@ -20,7 +20,7 @@ ghost use Rattle.operations.specs.declared.counted.Counted.TheVariants.{Hits, Ex
 
 use crate::reader::Stored;
 use crate::terms::terms_of;
-use counters::{Budget, HitCounter};
+use counters::{Budget, HitCounter, are_some};
 use lattice_laws::{Join, LexOf, MapOf, PairOf};
 use operations::{Count, Counted, count_of};
 use stamp_register::Key;
@@ -96,6 +96,11 @@ impl Stored for Slot {
     #[tactic(auto, unfolding(crate::specs::Slots::slot_held))]
     fn rights_of_all(&self, term: u8, into: &mut [i128]) {
         rights_of_all(self, term, into);
+    }
+
+    #[tactic(auto, unfolding(crate::specs::Slots::slot_held))]
+    fn all_have_rights(&self, term: u8, into: &mut [i128]) -> bool {
+        all_have_rights(self, term, into)
     }
 
     #[tactic(auto, unfolding(crate::specs::Slots::slot_held))]
@@ -211,6 +216,36 @@ pub(crate) fn rights_of_all(slot: &Slot, term: u8, into: &mut [i128])
     match budgets.get(&term) {
         Some(budget) => budget.rights_of_all(key.node, count, into),
         None => untouched_rights(key.node, count, into),
+    }
+}
+
+// The budget of a counted term, where anything of it was spent or moved: who set it, its count, and
+// what the nodes did with it.
+fn counted_budget(slot: &Slot, term: u8) -> Option<(u8, u64, &Budget)>
+    ensures { IfSome result (λ b. (node : ℕ)
+        → rights (budget_of b.2.now b.0 b.1) node ≡ slot_rights slot.now term node) }
+{
+    let (key, budgets) = slot.parts.first.held()?;
+    let count = count_of(key, term)?;
+    let budget = budgets.get(&term)?;
+    Some((key.node, count, budget))
+}
+
+/// Whether each of the first nodes has a right to execute a term, of as many as there are places.
+/// Where one has none, the rights of all are written in the places.
+pub(crate) fn all_have_rights(slot: &Slot, term: u8, into: &mut [i128]) -> bool
+    requires { length into.old ≤ 256 }
+    ensures len { length into.new ≡ length into.old }
+    ensures all { IsTrue result ↔ AllHaveRights (slot_rights slot.now term) (length into.old) }
+    ensures rights { result ≡ false
+        → into.new ≡ map (slot_rights slot.now term) (range_with_len 0 (length into.old)) }
+{
+    match counted_budget(slot, term) {
+        Some((setter, count, budget)) => budget.all_have_rights(setter, count, into),
+        None => {
+            rights_of_all(slot, term, into);
+            are_some(into)
+        }
     }
 }
 
