@@ -1,12 +1,12 @@
 //! Files that are there already.
 
+ghost use Rattle.std.specs.Prelude.{◌≡◌, IfOk, None, true};
+
 use crate::files::part_path;
 use command_line::{ThreadOptions, quoted};
 use std::alloc::{AllocError, AllocGlobal, Global};
 use std::fs;
 use std::fs::Files;
-
-ghost use Rattle.std.specs.Prelude.{◌≡◌, IfOk, None, true};
 
 /// The most nodes of a cluster.
 const MOST_NODES: u8 = 32;
@@ -37,10 +37,8 @@ fn kept_path<R: Files + AllocGlobal>(
     options: ThreadOptions<'_>,
 ) -> Result<Option<String>, AllocError>
     ensures forced { options.entry.force ≡ true → IfOk result (λ path. path ≡ None) }
-    ensures unkept {
-        options.entry.record ≡ None → options.entry.record_parts ≡ None →
-        IfOk result (λ path. path ≡ None)
-    }
+    ensures unkept { options.entry.record ≡ None → options.entry.record_parts ≡ None →
+        IfOk result (λ path. path ≡ None) }
 {
     if options.force {
         return Ok(None);
@@ -64,10 +62,8 @@ pub fn in_the_way<R: Files + AllocGlobal>(
     options: ThreadOptions<'_>,
 ) -> Result<Option<String>, AllocError>
     ensures forced { options.entry.force ≡ true → IfOk result (λ advice. advice ≡ None) }
-    ensures unkept {
-        options.entry.record ≡ None → options.entry.record_parts ≡ None →
-        IfOk result (λ advice. advice ≡ None)
-    }
+    ensures unkept { options.entry.record ≡ None → options.entry.record_parts ≡ None →
+        IfOk result (λ advice. advice ≡ None) }
 {
     let Some(path) = kept_path(rt, options)? else {
         return Ok(None);

@@ -1,14 +1,14 @@
 //! From where a served node is called.
 
+ghost use Rattle.node_service.specs.Kept.{is_kept};
+ghost use Rattle.std.specs.Prelude.{◌≡◌, is_some};
+
 use crate::fault::ServiceFault;
 use node_core::{Ask, NodeFault};
 use node_registry::{Label, Registry, Seat};
 use part_keeper::{CallFault, Recorder};
 use std::alloc::Global;
 use std::sync::{Arc, Wait};
-
-ghost use Rattle.node_service.specs.Kept.{is_kept};
-ghost use Rattle.std.specs.Prelude.{◌≡◌, is_some};
 
 /// From where a served node is called.
 #[derive(Drop)]

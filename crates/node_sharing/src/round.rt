@@ -50,6 +50,6 @@ pub fn share(node: &mut NodeCore, alloc: Global, memory: &mut Memory) -> Result<
     let config = node.config();
     let (shifts, after) = memory.round(alloc, node.state(), config.node, config.nodes)?;
     make_all(node, alloc, &shifts)?;
-    *memory = after;
+    memory.keep(after);
     Ok(shifts.len())
 }

@@ -1,5 +1,5 @@
 -- Lists that are read where they agree with what was asked for.
-use Rattle.std.proofs.Common.{◌≡◌, ℕ, ◌+◌, ◌<◌, ◌≤◌, Bool, cond, List, [], ◌∷◌, get_or, length, map, refl, sym, subst, ◌∙◌, ap, arith}
+use Rattle.std.proofs.Common.{◌≡◌, ℕ, ◌+◌, ◌<◌, ◌≤◌, Bool, cond, List, [], ◌∷◌, get_or, map, refl, sym, subst, ◌∙◌, ap, arith}
 use Rattle.std.specs.Prelude.{nat_lt, not, ◌==◌, ◌&&◌, slice_index, slice_index_or, vec_len, ◌<ℤ◌, Option, ℤ, pos, Result, Ok, Err, IfOk, OnOk}
 use Rattle.std.specs.Int.{int_gap}
 use Rattle.std.specs.List.{All, filter, fold, insert, position_or_len, range_with_len}
@@ -7,6 +7,7 @@ use Rattle.std.proofs.lemmas.List.Elements.{All-cons, All-head, All-nil, All-tai
 use Rattle.std.proofs.lemmas.List.FromFn.{get_or-map-range_with_len}
 use Rattle.std.proofs.lemmas.List.Sorted.{All-permutation, IsPermutation-insert}
 use Rattle.operations.specs.declared.counted.Counted.TheVariants.{Execs, Hits}
+use Rattle.counters.specs.Budgets.{AllHaveRights}
 use Rattle.replica_state.proofs.StoredSlots.{held_rights}
 use Rattle.replica_state.specs.Cells.{held_at}
 use Rattle.replica_state.specs.Points.{Held, rights_of_key}
@@ -106,24 +107,23 @@ kept_twice a b c h k = record {
   others = k.others ∙ h.others;
 }
 
--- where each has a right, nobody waits
-pub nobody_waits : (rights : List ℤ) (others : List ℕ) → All (λ right. pos 0 <ℤ right) rights →
-    All (λ other. other < length rights) others →
-    filter (λ other. int_gap (pos 0) (slice_index_or rights other (pos 0)) == 0) others ≡ []
-nobody_waits rights [] some within = refl
-nobody_waits rights (x ∷ xs) some within =
-    let P : ℕ → Type 0 = λ other. other < length rights in
-    let free : ℕ → Bool = λ other. int_gap (pos 0) (slice_index_or rights other (pos 0)) == 0 in
-    let right = some_right (slice_index_or rights x (pos 0)) (some x (pos 0) (All-head P x xs within)) in
-    ap (λ b. cond b (x ∷ filter free xs) (filter free xs)) right
-    ∙ nobody_waits rights xs some (All-tail P x xs within)
-
 -- ---- what is stored of a point, read into places
 
 module _ (v : State) (name : List ℕ) (h : Held) (same : h ≡ held_at v name) where
   -- the rights of a node
   pub own_read : (term node : ℕ) → rights_of_key h.key h.number term node ≡ rights_of v name term node
   own_read term node = ap (λ (k : Held). rights_of_key k.key k.number term node) same ∙ held_rights v name term node
+
+  -- where each node has a right, none of these waits
+  pub nobody_waits : (term n : ℕ) (others : List ℕ) → All (λ o. o < n) others →
+      AllHaveRights (rights_of_key h.key h.number term) n → waiting v name term others ≡ []
+  nobody_waits term n [] within have = refl
+  nobody_waits term n (x ∷ xs) within have =
+      let P : ℕ → Type 0 = λ o. o < n in
+      let free : ℕ → Bool = λ o. int_gap (pos 0) (rights_of v name term o) == 0 in
+      let right = some_right (rights_of v name term x)
+      (subst (λ r. pos 0 <ℤ r) (own_read term x) (have x (All-head P x xs within))) in
+      ap (λ b. cond b (x ∷ filter free xs) (filter free xs)) right ∙ nobody_waits term n xs (All-tail P x xs within) have
 
   -- of these nodes those wait that have no right by what was read
   pub waiting_read : (term n : ℕ) (rights : List ℤ) (others : List ℕ) → All (λ o. o < n) others →

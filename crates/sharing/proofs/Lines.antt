@@ -1,5 +1,5 @@
 -- A line with one node more, and who waits.
-use Rattle.std.proofs.Common.{◌≡◌, ◌≢◌, ◌≤◌, ℕ, ◌+◌, ◌<◌, Bool, true, false, cond, List, [], ◌∷◌, ◌++◌, length, take, get_or, refl, ◌∙◌, ap, arith}
+use Rattle.std.proofs.Common.{◌≡◌, ◌≢◌, ◌≤◌, ℕ, zero, suc, ◌+◌, ◌<◌, Bool, true, false, cond, List, [], ◌∷◌, ◌++◌, length, take, get_or, refl, ◌∙◌, ap, arith}
 use Rattle.std.proofs.Math.Dec.{eqb-suc-zero}
 use Rattle.std.specs.Prelude.{ℤ, pos, ◌≤ℤ◌, ◌<ℤ◌, ◌==◌, ◌&&◌, nat_lt, not}
 use Rattle.std.specs.Prelude.{Vec, vec_len}
@@ -58,6 +58,10 @@ nobody (x ∷ xs) h = let e : true ≡ false = h ∙ eqb-suc-zero (length xs) in
 
 pub nobody_in : {A : Type 0} (xs : Vec ℕ A) → true ≡ (vec_len xs == 0) → xs.items ≡ []
 nobody_in xs h = nobody xs.items (h ∙ ap (λ n. n == 0) xs.ok.0)
+
+pub nobody_served : (name : List ℕ) (term spare : ℕ) → shares_in name term spare [] ≡ []
+nobody_served name term zero = refl
+nobody_served name term (suc spare) = refl
 
 pub none_spared : (name : List ℕ) (term spare : ℕ) (line : List ℕ) → spare ≡ 0 → shares_in name term spare line ≡ []
 none_spared name term spare line e = ap (λ s. shares_in name term s line) e

@@ -2,6 +2,7 @@
 use Rattle.std.specs.Prelude.{◌≡◌, ℕ, ◌<◌, ◌≤◌, List, length, map, vec_len, ℤ}
 use Rattle.std.specs.List.{All, range_with_len}
 use Rattle.replica_state.specs.Points.{Held, rights_of_key}
+use Rattle.sharing.specs.declared.remembered.Remembered.{Remembered}
 use Rattle.sharing.specs.declared.room.Room.{Room}
 
 -- these are the rights of the first nodes to a term
@@ -26,3 +27,8 @@ pub record IsAsLarge (old new : Room) : Type 0 where
   pub rights : vec_len new.rights ≡ vec_len old.rights
   pub executions : vec_len new.executions ≡ vec_len old.executions
   pub others : new.others.items ≡ old.others.items
+
+-- it is of this name, and has a place for the hits of each of so many nodes
+pub record IsReadyFor (n : List ℕ) (nodes : ℕ) (entry : Remembered) : Type 0 where
+  pub name : entry.name ≡ n
+  pub hits : vec_len entry.hits ≡ nodes

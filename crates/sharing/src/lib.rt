@@ -10,6 +10,7 @@ mod point;
 mod remembered;
 mod room;
 mod shift;
+mod spare;
 
 pub use dealing::spread;
 pub use memory::Memory;

@@ -2,7 +2,7 @@
 
 ghost use Rattle.std.specs.Prelude.{◌≡◌, ◌++◌, ◌∷◌, [], ◌≤◌, ◌==◌, ℕ, List, length, nat_lt, pos};
 ghost use Rattle.std.specs.Prelude.{◌<◌, ◌<ℤ◌, slice_index, slice_index_or, take, vec_len};
-ghost use Rattle.std.specs.Prelude.{IsTrue, OnOk};
+ghost use Rattle.std.specs.Prelude.{false, IsTrue, OnOk};
 ghost use Rattle.std.specs.Int.{int_gap};
 ghost use Rattle.std.specs.List.{All, filter, position_or_len};
 ghost use Rattle.std.specs.List.Sorted.{IsNonDecreasingBy};
@@ -58,48 +58,42 @@ fn rights_among<S: Stored>(stored: &S, term: u8, node: u8, rights: &[i128]) -> i
     }
 }
 
-/// What a node can spare of a term. Where it can't spare any, its own rights are all that is read,
-/// unless it could of the term before: then it mostly can of this one too, and its rights are read
-/// with those of all.
-fn read_spare<S: Stored>(stored: &S, giver: Giver, term: u8, room: &mut Room) -> u64
-    requires { vec_len room.old.rights ≤ 256 }
-    ensures spare { result ≡ spare_of (rights_of_key (S.held stored.now).key
-        (S.held stored.now).number term giver.node) giver.still }
-    ensures rights { 0 < result → AreRights (S.held stored.now) term room.new.rights.items }
+/// Whether nothing is shifted of a term, since the node has none to spare or nobody is short. Else the
+/// rights of all are read. Its own rights are looked at first, unless it had some of the term before:
+/// then it mostly has some of this one too.
+fn is_idle<S: Stored>(stored: &S, giver: Giver, term: u8, room: &mut Room) -> bool
+    requires { IsRoomForOthers room.old }
+    ensures idle { IsTrue result → (v : State) (name : List ℕ) → S.held stored.now ≡ held_at v name
+        → term_shifts v name giver.node giver.still room.old.others.items term ≡ [] }
+    ensures rights { result ≡ false → AreRights (S.held stored.now) term room.new.rights.items }
     ensures kept { IsAsLarge room.old room.new }
 {
-    if !room.has_spare && spare(stored.rights(term, giver.node), giver.still) == 0 {
-        return 0;
+    if !room.has_some && spare(stored.rights(term, giver.node), giver.still) == 0 {
+        return true;
     }
-    room.read_rights(stored, term);
-    let rights = rights_among(stored, term, giver.node, &room.rights);
-    let spare = spare(rights, giver.still);
-    room.has_spare = spare > 0;
-    spare
+    room.all_have_rights(stored, term)
 }
 
-/// Whether each of these rights is one at least.
-fn are_some(rights: &[i128]) -> bool
-    ensures { IsTrue result → All (λ right. pos 0 <ℤ right) rights.now }
+/// What a node can spare of a term, by the rights that were read.
+fn spare_read<S: Stored>(stored: &S, giver: Giver, term: u8, room: &mut Room) -> u64
+    requires { AreRights (S.held stored.now) term room.old.rights.items }
+    ensures spare { result ≡ spare_of (rights_of_key (S.held stored.now).key
+        (S.held stored.now).number term giver.node) giver.still }
+    ensures rights { AreRights (S.held stored.now) term room.new.rights.items }
+    ensures kept { IsAsLarge room.old room.new }
 {
-    let mut are_some = true;
-    for place in 0..rights.len() {
-        are_some &= rights[place] > 0;
-    }
-    are_some
+    let rights = rights_among(stored, term, giver.node, &room.rights);
+    room.has_some = rights > 0;
+    spare(rights, giver.still)
 }
 
-/// Writes which of these nodes have no right. Mostly each node has some, and then nobody is looked
-/// for.
+/// Writes which of these nodes have no right.
 fn find_waiting(rights: &[i128], others: &[u8], waiting: &mut Vec<u8>) -> Result<(), AllocError>
     requires { All (λ other. other < length rights.now) others.now }
     ensures { OnOk result (waiting.new.items ≡ filter
         (λ other. int_gap (pos 0) (slice_index_or rights.now other (pos 0)) == 0) others.now) }
 {
     waiting.clear();
-    if are_some(rights) {
-        return Ok(());
-    }
     for other in others {
         if rights[usize::from(*other)] <= 0 {
             waiting.push(*other)?;
@@ -252,7 +246,10 @@ pub(crate) fn push_term<S: Stored>(
         ++ term_shifts v name.now giver.node giver.still room.old.others.items term) }
     ensures kept { IsAsLarge room.old room.new }
 {
-    let spare = read_spare(stored, giver, term, room);
+    if is_idle(stored, giver, term, room) {
+        return Ok(());
+    }
+    let spare = spare_read(stored, giver, term, room);
     if spare == 0 {
         return Ok(());
     }

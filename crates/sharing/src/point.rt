@@ -1,7 +1,7 @@
 //! One point in a round: who passed it, and what the node shifts of its rights.
 
 ghost use Rattle.std.specs.Prelude.{◌≡◌, ◌++◌, ◌==◌, ◌&&◌, not, nat_lt, min, ◌+◌, if◌then◌else◌};
-ghost use Rattle.std.specs.Prelude.{map, flat_map, slice_index, OnOk, IfOk};
+ghost use Rattle.std.specs.Prelude.{flat_map, map, slice_index, vec_len, OnOk, IfOk};
 ghost use Rattle.std.specs.List.{filter, range_with_len};
 ghost use Rattle.actions.specs.Limits.{max_terms};
 ghost use Rattle.operations.specs.declared.counted.Counted.TheVariants.{Hits};
@@ -20,14 +20,13 @@ use actions::{MAX_TERMS, Name};
 use replica_state::{Counted, Stored};
 use std::alloc::{AllocError, Global};
 
-/// The hits of each node.
-fn hits_of<S: Stored>(alloc: Global, stored: &S, nodes: u8) -> Result<Vec<u64>, AllocError>
-    ensures { IfOk result (λ hits. hits.items
-        ≡ map (λ node. (S.held stored.now).number (Hits node)) (range_with_len 0 nodes)) }
+/// Reads the hits of each node.
+fn read_hits<S: Stored>(stored: &S, nodes: u8, hits: &mut Vec<u64>)
+    requires { vec_len hits.old ≡ nodes }
+    ensures { hits.new.items
+        ≡ map (λ node. (S.held stored.now).number (Hits node)) (range_with_len 0 nodes) }
 {
-    let mut hits = vec![in alloc; 0; usize::from(nodes)]?;
-    stored.hits_of_all(&mut hits);
-    Ok(hits)
+    stored.hits_of_all(hits);
 }
 
 /// Writes the others that passed since the last round, by the hits of each node.
@@ -94,31 +93,33 @@ fn push_terms<S: Stored>(
     Ok(())
 }
 
-/// Adds the shifts of a point, and answers what is remembered of it after the round.
+/// Adds the shifts of a point, and answers what is remembered of it after the round, written over an
+/// entry of its name with a place for each node.
 pub(crate) fn push_point<S: Stored>(
     alloc: Global,
-    name: &Name,
     stored: &S,
     remembered: Option<&Remembered>,
     node: u8,
     nodes: u8,
+    mut entry: Remembered,
     room: &mut Room,
     shifts: &mut Vec<Shift>,
 ) -> Result<Remembered, AllocError>
-    requires { HasPlaces nodes room.old }
-    ensures shifts { OnOk result ((v : State) → S.held stored.now ≡ held_at v name.now
+    requires hits { vec_len entry.hits ≡ nodes }
+    requires room { HasPlaces nodes room.old }
+    ensures shifts { OnOk result ((v : State) → S.held stored.now ≡ held_at v entry.name
         → shifts.new.items ≡ shifts.old.items
-        ++ point_shifts v node nodes (recalled_at remembered.entry) name.now) }
-    ensures memory { IfOk result (λ after. (v : State) → S.held stored.now ≡ held_at v name.now
+        ++ point_shifts v node nodes (recalled_at remembered.entry) entry.name) }
+    ensures memory { IfOk result (λ after. (v : State) → S.held stored.now ≡ held_at v entry.name
         → recalled after
-        ≡ recalled_after v node nodes (recalled_at remembered.entry) name.now) }
+        ≡ recalled_after v node nodes (recalled_at remembered.entry) entry.name) }
     ensures room { OnOk result (HasPlaces nodes room.new) }
 {
-    let hits = hits_of(alloc, stored, nodes)?;
-    find_passers(&hits, remembered, node, nodes, &mut room.others)?;
+    read_hits(stored, nodes, &mut entry.hits);
+    find_passers(&entry.hits, remembered, node, nodes, &mut room.others)?;
     let still = still_rounds(stored, remembered, node);
+    entry.still = still;
     let giver = Giver { node, still };
-    push_terms(alloc, name, stored, giver, room, shifts)?;
-    let name = name.copied(alloc)?;
-    Ok(Remembered { name, hits, still })
+    push_terms(alloc, &entry.name, stored, giver, room, shifts)?;
+    Ok(entry)
 }

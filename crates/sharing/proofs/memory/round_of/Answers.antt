@@ -6,6 +6,8 @@ use Rattle.std.specs.List.Sorted.{IsStrictlySortedBy}
 use Rattle.std.specs.Ordering.{nat_cmp}
 use Rattle.std.specs.Cmp.Lexicographic.{slice_cmp}
 use Rattle.replica_state.proofs.NamesHeld.{names_are_held}
+use Rattle.replica_state.specs.Cells.{held_at}
+use Rattle.replica_state.specs.States.{State}
 use Rattle.sharing.specs.Memory.{recall}
 use Rattle.sharing.specs.Remembered.{recalled, recalled_all, recalled_at}
 use Rattle.sharing.specs.Shares.{memory_after, point_shifts, recalled_after, shifts_of}
@@ -25,14 +27,14 @@ loop-name-init g c =
           ++ flat_map (λ name. point_shifts v c.args.node c.args.nodes (recall memory name) name)
           (names i));
       after = rw c.into_iter-name-iterator.ensures.into_iter_gives
-          (λ i. map recalled (c.new-points.ensures.items i)
+          (λ i. map recalled (c.list-points.ensures i)
           ++ map (λ name. recalled_after v c.args.node c.args.nodes (recall memory name) name)
           (names i));
       ascending = rw c.into_iter-name-iterator.ensures.into_iter_gives
           (subst (λ (ns : List (List ℕ)). IsStrictlySortedBy (slice_cmp nat_cmp) ns) (sym names)
           (names_are_held v (g.met.R.Replica.reached c.args.replica.now)).ascending);
       recalls = recalls_itself memory _;
-      room = c.in_ok-room.ensures;
+      room = c.in_ok-fit.ensures;
       held = rw c.into_iter-name-iterator.ensures.into_iter_gives c.points-name-items.ensures.held;
     }
 
@@ -47,19 +49,25 @@ loop-name-preserved g c =
     let before = rw c.in-Some.ensures.steps at c.loop-name.invariant in
     let found : recalled_at c.recall-remembered.result ≡ recall memory name =
     c.recall-remembered.ensures ∙ c.from_name-rest.ensures.here ∙ before.recalls.0 in
-    let stored = before.held.0 in
+    let rec = recalled_at c.recall-remembered.result in
+    let same : c.in_ok-entry.entry.name ≡ name = c.in_ok-entry.ensures.entry.name in
+    let held = g.R.Point.Stored.held c.in-Some.stored.now in
+    let made = subst (λ (n : List ℕ). (w : State) → held ≡ held_at w n → c.push_point.new.shifts.items
+    ≡ c.loop-name.shifts.items ++ point_shifts w node nodes rec n) same c.in_ok-after.ensures.shifts v before.held.0 in
+    let kept = subst (λ (n : List ℕ). (w : State) → held ≡ held_at w n → recalled c.in_ok-after.after
+    ≡ recalled_after w node nodes rec n) same c.in_ok-after.ensures.memory v before.held.0 in
     let shifts = c.loop-name.shifts.items in
     let points = c.loop-name.points.items in
     record {
       shifts = added_before shifts (point_shifts v node nodes (recall memory name) name)
           (flat_map (λ n. point_shifts v node nodes (recall memory n) n) left)
-          (c.in_ok-after.ensures.shifts v stored ∙ ap (λ r. shifts ++ point_shifts v node nodes r name) found)
+          (made ∙ ap (λ r. shifts ++ point_shifts v node nodes r name) found)
           before.shifts refl;
       after = added_before (recalled_all points) (recalled_after v node nodes (recall memory name) name ∷ [])
           (map (λ n. recalled_after v node nodes (recall memory n) n) left)
           (ap (map recalled) c.in_ok-push.ensures.items ∙ map-append recalled points _
           ∙ ap (λ a. recalled_all points ++ a ∷ [])
-          (c.in_ok-after.ensures.memory v stored ∙ ap (λ r. recalled_after v node nodes r name) found))
+          (kept ∙ ap (λ r. recalled_after v node nodes r name) found))
           before.after refl;
       ascending = sorted_tail (slice_cmp nat_cmp) name left before.ascending;
       recalls = recalls_later _ _ memory name left c.from_name-rest.ensures.above

@@ -24,6 +24,6 @@ invariant-loop-name g l =
           ≡ memory_after v l.node l.nodes memory;
       ascending : IsStrictlySortedBy (slice_cmp nat_cmp) left;
       recalls : RecallsAll (recalled_all l.rest) memory left;
-      room : HasPlaces l.nodes l.room;
+      room : HasPlaces l.nodes l.spare.room;
       held : AllByRecursion (λ e. g.R.Point.Stored.held e.1 ≡ held_at v e.0) l.name-iterator;
     }

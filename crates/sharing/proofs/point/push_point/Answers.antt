@@ -21,19 +21,19 @@ push_terms-requires g c =
     let passed = c.in_ok-find_passers.ensures in
     room_for nodes (filter test (range_with_len 0 nodes)) _ (omega arith)
     (All-filter test (λ other. other < nodes) (range_with_len 0 nodes) (all_below nodes))
-    (record { rights = c.requires.rights; executions = c.requires.executions }) passed
+    (record { rights = c.requires.room.rights; executions = c.requires.room.executions }) passed
 
 pub returns-clause-shifts : goal.returns-clause-shifts
 unfolding point_shifts
 returns-clause-shifts g c = λ v same.
-    let name = c.args.name.now in
+    let name = c.args.entry.name in
     let node = c.args.node in
     let nodes = c.args.nodes in
     let rec = recalled_at c.args.remembered in
     let h = g.S.Stored.held c.args.stored.now in
     let items = c.args.shifts.now.items in
     let others = c.in_ok-find_passers.ensures
-    ∙ passers_read v name h same rec node nodes c.deref.result.now (c.deref.ensures.value ∙ c.in_ok-hits.ensures) in
+    ∙ passers_read v name h same rec node nodes c.deref.result.now (c.deref.ensures.value ∙ c.read_hits.ensures) in
     let still : c.still_rounds-still.result ≡ still_now v name rec node = c.still_rounds-still.ensures
     ∙ ap (λ (k : Held). cond (nat_lt (seen rec node) (k.number (Hits node))) 0 (min patience (still_before rec + 1))) same in
     c.in_ok-push_terms.ensures.shifts v same
@@ -44,12 +44,12 @@ returns-clause-shifts g c = λ v same.
 
 pub returns-clause-memory : goal.returns-clause-memory
 returns-clause-memory g c = λ v same.
-    let name = c.args.name.now in
+    let name = c.args.entry.name in
     let node = c.args.node in
     let nodes = c.args.nodes in
     let rec = recalled_at c.args.remembered in
     let still : c.still_rounds-still.result ≡ still_now v name rec node = c.still_rounds-still.ensures
     ∙ ap (λ (k : Held). cond (nat_lt (seen rec node) (k.number (Hits node))) 0 (min patience (still_before rec + 1))) same in
-    let hits : c.in_ok-hits.hits.items ≡ map (v.hits name) (range_with_len 0 nodes) = c.in_ok-hits.ensures
+    let hits : c.read_hits.new.hits.items ≡ map (v.hits name) (range_with_len 0 nodes) = c.read_hits.ensures
     ∙ ap (λ (k : Held). map (λ other. k.number (Hits other)) (range_with_len 0 nodes)) same in
-    λ i. record { name = c.in_ok-name.ensures i; hits = hits i; still = still i }
+    λ i. record { name = name; hits = hits i; still = still i }
