@@ -89,9 +89,22 @@ static void set_points(int node, bool is_spread)
     }
 }
 
-/* The process of the others: they hear of the points, pass so many before each round, and each tells node 0, and hears
- * that this came, so that it tells no more of it. */
-static void be_others(int setter, bool is_spread, int points)
+/* Nodes behind the setter, so many, each move a right to each term to the last node. */
+static void move_rights(int setter, int movers)
+{
+    char name[32];
+    uint64_t total;
+    for (int n = setter + 1; n <= setter + movers; n++)
+        for (int point = 0; point < POINTS; point++) {
+            size_t length = name_of(point, name);
+            for (int term = 0; term < TERMS; term++)
+                must(failreg_shift(&nodes[n], name, length, (uint8_t)term, NODES - 1, 1, &total));
+        }
+}
+
+/* The process of the others: they hear of the points, some of them move rights, they pass so many points before each
+ * round, and each tells node 0, and hears that this came, so that it tells no more of it. */
+static void be_others(int setter, bool is_spread, int movers, int points)
 {
     char name[32];
     failreg_act act;
@@ -111,6 +124,7 @@ static void be_others(int setter, bool is_spread, int points)
         if (!setter)
             hand_over(to_node);
     }
+    move_rights(setter, movers);
     for (int round = 0; points && round < ROUNDS; round++)
         for (int n = 1; n < NODES; n++) {
             for (int point = 0; point < points; point++) {
@@ -154,7 +168,7 @@ static void hear_others(void)
     }
 }
 
-static void measure(const char *what, int setter, bool is_spread, int points)
+static void measure(const char *what, int setter, bool is_spread, int movers, int points)
 {
     double best = 1e18;
     uint64_t shifts = 0, most = 0;
@@ -162,7 +176,7 @@ static void measure(const char *what, int setter, bool is_spread, int points)
     pid_t others = pipe(to_node) || pipe(to_others) ? -1 : fork();
     if (others == 0) {
         close(to_node[0]), close(to_others[1]);
-        be_others(setter, is_spread, points);
+        be_others(setter, is_spread, movers, points);
     }
     close(to_node[1]), close(to_others[0]);
     begin(setter, is_spread);
@@ -191,13 +205,15 @@ int main(void)
     between = mmap(NULL, sizeof *between, PROT_READ | PROT_WRITE, MAP_SHARED | MAP_ANONYMOUS, -1, 0);
     if (between == MAP_FAILED)
         return 1;
-    measure("nobody passed; the node has no right", 1, false, 0);
-    measure("31 nodes passed 8 points; the node has no right", 1, false, 8);
-    measure("31 nodes passed all points; the node has no right", 1, false, POINTS);
-    measure("nobody passed; the node has all rights", 0, false, 0);
-    measure("31 nodes passed 8 points; each node has rights", 1, true, 8);
-    measure("31 nodes passed all points; each node has rights", 1, true, POINTS);
-    measure("31 nodes passed 8 points; the node has all rights at first", 0, false, 8);
-    measure("31 nodes passed all points; the node has all rights at first", 0, false, POINTS);
+    measure("nobody passed; the node has no right", 1, false, 0, 0);
+    measure("31 nodes passed 8 points; the node has no right", 1, false, 0, 8);
+    measure("31 nodes passed all points; the node has no right", 1, false, 0, POINTS);
+    measure("nobody passed; the node has all rights", 0, false, 0, 0);
+    measure("31 nodes passed 8 points; each node has rights", 1, true, 0, 8);
+    measure("31 nodes passed all points; each node has rights", 1, true, 0, POINTS);
+    measure("the same, and 1 more node moved rights of each term", 1, true, 1, POINTS);
+    measure("the same, and 4 more", 1, true, 4, POINTS);
+    measure("31 nodes passed 8 points; the node has all rights at first", 0, false, 0, 8);
+    measure("31 nodes passed all points; the node has all rights at first", 0, false, 0, POINTS);
     return 0;
 }
