@@ -4,12 +4,10 @@ ghost use Rattle.std.specs.Prelude.{◌≡◌, IfOk, None, true};
 
 use crate::files::part_path;
 use command_line::{ThreadOptions, quoted};
+use message_format::MAX_NODES;
 use std::alloc::{AllocError, AllocGlobal, Global};
 use std::fs;
 use std::fs::Files;
-
-/// The most nodes of a cluster.
-const MOST_NODES: u8 = 32;
 
 // Whether a file is there that holds what is written, unlike a pipe or a device.
 fn is_kept<R: Files>(rt: &R, path: &str) -> bool {
@@ -21,7 +19,7 @@ fn is_kept<R: Files>(rt: &R, path: &str) -> bool {
 
 // The first file that is there and may have a part, of this run or of another one.
 fn kept_part<R: Files>(rt: &R, alloc: Global, folder: &str) -> Result<Option<String>, AllocError> {
-    for node in 0..MOST_NODES {
+    for node in 0..MAX_NODES {
         let path = part_path(alloc, folder, node)?;
         if is_kept(rt, &path) {
             return Ok(Some(path));

@@ -1,5 +1,5 @@
 -- Rounds of a served node, each of which shares rights before it tells what there is to tell.
-use Rattle.std.specs.Prelude.{◌≡◌, ◌≤◌, ℕ, ◌+◌, Bool, List, Result}
+use Rattle.std.specs.Prelude.{◌≡◌, ◌≤◌, ℕ, ◌+◌, if◌then◌else◌, Bool, List, Result}
 use Rattle.node_steps.specs.declared.config.Config.{Config}
 use Rattle.node_calls.specs.declared.fault.NodeFault.{NodeFault}
 use Rattle.command_line.specs.declared.reading.Rights.{Rights}
@@ -7,6 +7,11 @@ use Rattle.command_line.specs.declared.reading.Rights.TheVariants.{Stay, FollowD
 use Rattle.sharing.specs.Memory.{Recalled}
 use Rattle.registry_sharing.specs.Rounds.{IsShareRound}
 use Rattle.peer_rounds.specs.Rounds.{most_calls}
+
+-- rights follow demand in a round where that is wanted, and calls are made
+abbrev pub rights_by : Rights → Bool → Rights
+rights_by Stay are_made = Stay
+rights_by FollowDemand are_made = if are_made then FollowDemand else Stay
 
 -- where rights follow demand, a round of sharing was made from a seat; where they stay, nothing was done
 abbrev pub IsSharedFirst : Rights → Config → List ℕ → Bool → ℕ → ℕ → ℕ → List Recalled → List Recalled → Type 0

@@ -3,7 +3,7 @@
 ghost use Rattle.std.specs.Prelude.{◌≡◌, ◌≤◌, ◌<◌, ◌^◌, ◌+◌, ◌*◌, [], length};
 ghost use Rattle.command_line.specs.declared.reading.Rights.TheVariants.{Stay};
 ghost use Rattle.peer_rounds.specs.Rounds.{greeted, most_calls, most_peers};
-ghost use Rattle.peer_rounds.specs.Sharing.{AreTold, IsSharedFirst};
+ghost use Rattle.peer_rounds.specs.Sharing.{rights_by, AreTold, IsSharedFirst};
 
 use crate::forgetful::{Said, ServedWire};
 use crate::peers::first_paces;
@@ -17,15 +17,21 @@ use std::alloc::AllocGlobal;
 use std::sync::Wait;
 use std::time::Clock;
 
-// Which rights are given to others in a round: none, where no call is made yet, or any more.
+// What is done with rights in a round: they follow demand where that is wanted, and calls are made.
+fn rights_by(wanted: Rights, are_calls_made: bool) -> Rights
+    ensures { result ≡ rights_by wanted are_calls_made }
+{
+    match wanted {
+        Rights::FollowDemand if are_calls_made => Rights::FollowDemand,
+        Rights::FollowDemand | Rights::Stay => Rights::Stay,
+    }
+}
+
+// The same, by whether all are heard that calls wait for, and calls are written still.
 fn rights_now<R: Wait, W: ServedWire>(rt: &R, heard: &Peers, wire: &mut W, wanted: Rights) -> Rights
     ensures { wanted ≡ Stay → result ≡ Stay }
 {
-    let are_given = heard.awaited(rt).is_none() && wire.goes_on(rt);
-    match wanted {
-        Rights::FollowDemand if are_given => Rights::FollowDemand,
-        Rights::FollowDemand | Rights::Stay => Rights::Stay,
-    }
+    rights_by(wanted, heard.awaited(rt).is_none() && wire.goes_on(rt))
 }
 
 // A pace by which its node is told at once, though there may be no news for it, and though it wasn't
