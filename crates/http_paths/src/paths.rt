@@ -1,6 +1,6 @@
 //! Paths, chosen among the routes by `matchit`.
 
-ghost use Rattle.std.specs.Prelude.{◌≡◌, IfOk, OnOk, option_map};
+ghost use Rattle.std.specs.Prelude.{◌≡◌, [], IfOk, OnOk, option_map};
 ghost use Rattle.matchit.specs.Params.{AllText};
 ghost use Rattle.matchit.specs.Route.{parse_route};
 ghost use Rattle.http_paths.specs.Rows.{route_rows, with_route, IsFree};
@@ -83,18 +83,22 @@ fn filled(alloc: Global) -> Result<Router<RouteId>, AllocError>
     ensures { IfOk result (λ router. router ≡ route_rows) }
 {
     let mut router = Router::new(alloc);
-    add(&mut router, "/fail", RouteId::Points)?;
-    add(&mut router, "/fail/", RouteId::Points)?;
-    add(&mut router, "/fail/{name}", RouteId::Point)?;
-    add(&mut router, "/gossip", RouteId::Gossip)?;
-    add(&mut router, "/grant/{name}/{term}/{amount}", RouteId::Grant)?;
-    add(&mut router, "/load", RouteId::Load)?;
-    add(&mut router, "/report", RouteId::Report)?;
-    add(
-        &mut router,
-        "/shift/{name}/{term}/{to}/{amount}",
-        RouteId::Shift,
-    )?;
-    add(&mut router, "/status", RouteId::Status)?;
+    add_all(&mut router)?;
     Ok(router)
+}
+
+// Adds all routes to a router that has none. The only error is out of memory.
+fn add_all(router: &mut Router<RouteId>) -> Result<(), AllocError>
+    requires { router.old ≡ [] }
+    ensures { OnOk result (router.new ≡ route_rows) }
+{
+    add(router, "/fail", RouteId::Points)?;
+    add(router, "/fail/", RouteId::Points)?;
+    add(router, "/fail/{name}", RouteId::Point)?;
+    add(router, "/gossip", RouteId::Gossip)?;
+    add(router, "/grant/{name}/{term}/{amount}", RouteId::Grant)?;
+    add(router, "/load", RouteId::Load)?;
+    add(router, "/report", RouteId::Report)?;
+    add(router, "/shift/{name}/{term}/{to}/{amount}", RouteId::Shift)?;
+    add(router, "/status", RouteId::Status)
 }
