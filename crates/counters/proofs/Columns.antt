@@ -11,7 +11,7 @@ use mir.Syntax.{w128}
 use mir.Val.{SFits, of_z, to_z}
 use Rattle.counters.specs.Sums.{node_numbers, sum_others, AddsEach, AreWithin}
 use Rattle.counters.specs.Budgets.{rights}
-use Rattle.counters.specs.Cells.{Cells, Rows, Shares, cell, row_cell, came_to, went_from, budget_of}
+use Rattle.counters.specs.Cells.{Cells, Rows, Shares, balance_of, cell, row_cell, came_to, went_from, budget_of}
 use Rattle.counters.proofs.EntrySums.{counts-entry, sum-entry}
 use Rattle.counters.proofs.CellLemmas.{AreApart, below-numbers, chosen-other, chosen-same, total_of_others-empty}
 use Rattle.counters.proofs.SumLemmas.{sum_others-and}
@@ -201,16 +201,10 @@ negated-read spent sums n is = (
       ∙ get_or-map-range_with_len (λ node. pos 0 -ℤ pos (spent node)) 0 n i i (pos 0) low (omega arith),
 )
 
-pub rights-read : (shares : Shares) (setter count n : ℕ) (start moved : List ℤ) → n ≤ 256 → length start ≡ n →
-    ((i : ℕ) → i < n → get_or start i (pos 0) ≡ pos 0 -ℤ pos (cell shares.first i)) →
-    AddsEach (λ i. pos (came_to shares.second i) -ℤ pos (went_from shares.second i)) start moved →
-    (i : ℕ) → i < n →
-    get_or moved i (pos 0) +ℤ pos (cond (i == setter) count 0) ≡ rights (budget_of shares setter count) i
-rights-read shares setter count n start moved few size spent rows i low =
-    let none = spent i low in
-    let a = rows.each i (omega (arith, low, size)) in
-    let own = sum_others-and node_numbers i (λ from. row_cell shares.second from i)
-    (below-numbers i (omega (arith, low, few))) in
+pub rights-balance : (shares : Shares) (setter count i : ℕ) → i < 256 →
+    balance_of shares i +ℤ pos (cond (i == setter) count 0) ≡ rights (budget_of shares setter count) i
+rights-balance shares setter count i low =
+    let own = sum_others-and node_numbers i (λ from. row_cell shares.second from i) (below-numbers i low) in
     omega (arith, ints)
 
 -- with the count at the place of the setter, if it has one

@@ -7,3 +7,4 @@ pub mod Columns
 pub mod WriteLemmas
 pub mod CounterJoins
 pub mod AllRead
+pub mod BalanceLemmas

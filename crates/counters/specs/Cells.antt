@@ -1,5 +1,5 @@
 -- Numbers by node, 0 where there is none.
-use Rattle.std.specs.Prelude.{◌≡◌, ◌≢◌, ℕ, ◌-◌, ◌^◌, Bool, nat_lt, List, [], slice_index}
+use Rattle.std.specs.Prelude.{◌≡◌, ◌≢◌, ℕ, ◌+◌, ◌-◌, ◌^◌, Bool, nat_lt, List, [], slice_index, ℤ, pos, ◌-ℤ◌}
 use Rattle.std.specs.Ordering.{nat_cmp}
 use Rattle.lattice_laws.specs.Map.{value_at}
 use Rattle.lattice_laws.specs.Pair.{pair_of}
@@ -67,6 +67,11 @@ moved_cell shares from to = row_cell shares.second from to
 -- what a node granted itself
 abbrev pub granted_cell : Shares → ℕ → ℕ
 granted_cell shares node = moved_cell shares node node
+
+-- what came to a node, its grants among it, less what went from it to others and what it spent
+abbrev pub balance_of : Shares → ℕ → ℤ
+balance_of shares node =
+    pos (came_to shares.second node) -ℤ pos (went_from shares.second node + spent_cell shares node)
 
 -- new has the number as what the node spent, and all else as in old
 pub record WritesSpent (old new : Shares) (node number : ℕ) : Type 0 where

@@ -9,18 +9,13 @@ ghost use Rattle.counters.specs.Cells.{no_shares, spent_cell, moved_cell, grante
 ghost use Rattle.counters.specs.Cells.{WritesSpent, WritesMoved};
 ghost use Rattle.counters.specs.Refusals.{spend_refusal, shift_refusal, grant_refusal, too_great, IsRefusal};
 
-use crate::cells::{
-    Cells, Rows, add_rows, came_and_went, count, number_in_row, number_of, raise, raise_row, total,
-    total_of_others, total_of_own, write_negated, write_numbers,
-};
+use crate::cells::{number_in_row, number_of, total, total_of_own, write_numbers};
 use crate::fault::CounterFault;
-use crate::shortage::{are_above, are_some, only_row};
-use lattice_laws::{Join, PairOf};
+use crate::ledger::{Ledger, SpentAndMoved};
+use crate::shortage::are_some;
+use lattice_laws::Join;
 use std::alloc::{AllocError, Global};
 use std::marker::Model;
-
-/// What each node spent, and what each moved to each other and, at its own place, granted.
-type SpentAndMoved = PairOf<Cells, Rows>;
 
 /// What the nodes did with the count of a term: how many rights to execute it each of them spent,
 /// how many each moved to each, and how many each granted itself beyond the count, in all. The node
@@ -30,7 +25,7 @@ type SpentAndMoved = PairOf<Cells, Rows>;
 /// are joined, the greater number of each cell holds. After a refusal a budget is as it was.
 #[derive(Debug, Drop)]
 pub struct Budget {
-    shares: SpentAndMoved,
+    ledger: Ledger,
 }
 
 impl Model for Budget {
@@ -38,7 +33,7 @@ impl Model for Budget {
 
     ghost Value = { Shares };
 
-    ghost view = { λ budget. budget.shares };
+    ghost view = { λ budget. budget.ledger };
 }
 
 impl Budget {
@@ -47,10 +42,7 @@ impl Budget {
         ensures { result ≡ no_shares }
     {
         Budget {
-            shares: PairOf {
-                first: Cells::new(alloc),
-                second: Rows::new(alloc),
-            },
+            ledger: Ledger::new(alloc),
         }
     }
 
@@ -59,30 +51,26 @@ impl Budget {
     pub fn rights(&self, setter: u8, count: u64, node: u8) -> i128
         ensures { result ≡ rights (budget_of self.now setter count) node }
     {
-        let own = if node == setter { u128::from(count) } else { 0 };
-        let (came, went) = came_and_went(&self.shares.second, node);
-        let given = own + came;
-        let gone = went + u128::from(self.spent(node));
-        given as i128 - gone as i128
+        let own = if node == setter { count } else { 0 };
+        self.ledger.balance(node) + i128::from(own)
     }
 
     /// The rights of the first nodes, of as many as there are places, as `rights` answers them one by
-    /// one: all that is stored is read once.
+    /// one.
     pub fn rights_of_all(&self, setter: u8, count: u64, into: &mut [i128])
         requires { length into.old ≤ 256 }
         ensures { into.new
             ≡ map (rights (budget_of self.now setter count)) (range_with_len 0 (length into.old)) }
     {
-        write_negated(&self.shares.first, into);
-        add_rows(&self.shares.second, into);
+        self.ledger.write_balances(into);
         let place = usize::from(setter);
         if place < into.len() {
             into[place] += i128::from(count);
         }
     }
 
-    /// Whether each of the first nodes has a right, of as many as there are places. Where one has none,
-    /// the rights of all are written in the places, as `rights_of_all` writes them.
+    /// Whether each of the first nodes has a right, of as many as there are places. The rights of all
+    /// are written in these, as `rights_of_all` writes them.
     pub fn all_have_rights(&self, setter: u8, count: u64, into: &mut [i128]) -> bool
         requires { length into.old ≤ 256 }
         ensures len { length into.new ≡ length into.old }
@@ -91,9 +79,6 @@ impl Budget {
         ensures rights { result ≡ false → into.new
             ≡ map (rights (budget_of self.now setter count)) (range_with_len 0 (length into.old)) }
     {
-        if self.surely_all_have(setter, count, into.len()) {
-            return true;
-        }
         self.rights_of_all(setter, count, into);
         are_some(into)
     }
@@ -102,7 +87,7 @@ impl Budget {
     pub fn spent(&self, node: u8) -> u64
         ensures { result ≡ spent_cell self.now node }
     {
-        number_of(&self.shares.first, node)
+        number_of(self.ledger.spent(), node)
     }
 
     /// What the first nodes spent, of as many as there are places: all that is stored of it is read
@@ -110,14 +95,14 @@ impl Budget {
     pub fn spent_of_all(&self, into: &mut [u64])
         ensures { into.new ≡ map (spent_cell self.now) (range_with_len 0 (length into.old)) }
     {
-        write_numbers(&self.shares.first, into);
+        write_numbers(self.ledger.spent(), into);
     }
 
     /// What a node moved to another in all, or granted where both are one.
     pub fn moved(&self, from: u8, to: u8) -> u64
         ensures { result ≡ moved_cell self.now from to }
     {
-        number_in_row(&self.shares.second, from, to)
+        number_in_row(self.ledger.moved(), from, to)
     }
 
     /// What a node granted itself beyond the count, in all.
@@ -131,14 +116,14 @@ impl Budget {
     pub fn total_spent(&self) -> u128
         ensures { result ≡ sum_below node_numbers (spent_cell self.now) }
     {
-        total(&self.shares.first)
+        total(self.ledger.spent())
     }
 
     /// What all nodes granted themselves beyond the count.
     pub fn total_granted(&self) -> u128
         ensures { result ≡ sum_below node_numbers (granted_cell self.now) }
     {
-        total_of_own(&self.shares.second)
+        total_of_own(self.ledger.moved())
     }
 
     /// Spends one right of a node, and answers how many it has now spent. It is refused where the
@@ -154,7 +139,7 @@ impl Budget {
         ensures err { OnErr result (self.new ≡ self.old) }
     {
         let spent = self.spend_checked(setter, count, node)?;
-        raise(&mut self.shares.first, node, spent)?;
+        self.ledger.raise_spent(node, spent)?;
         Ok(spent)
     }
 
@@ -169,7 +154,11 @@ impl Budget {
             (IsRefusal (too_great (spent_cell self.old node + 1)) (spent_cell self.old node)) }
         ensures err { OnErr result (self.new ≡ self.old) }
     {
-        count(&mut self.shares.first, node)
+        let Some(more) = self.spent(node).checked_add(1) else {
+            return Err(CounterFault::CellFull);
+        };
+        self.ledger.raise_spent(node, more)?;
+        Ok(more)
     }
 
     /// Moves rights of a node to another, and answers how many it has now moved there in all. It
@@ -195,7 +184,7 @@ impl Budget {
         ensures err { OnErr result (self.new ≡ self.old) }
     {
         let moved = self.shift_checked(setter, count, from, to, amount)?;
-        raise_row(&mut self.shares.second, alloc, from, to, moved)?;
+        self.ledger.raise_moved(alloc, from, to, moved)?;
         Ok(moved)
     }
 
@@ -212,7 +201,7 @@ impl Budget {
         ensures err { OnErr result (self.new ≡ self.old) }
     {
         let granted = self.grant_checked(node, amount)?;
-        raise_row(&mut self.shares.second, alloc, node, node, granted)?;
+        self.ledger.raise_moved(alloc, node, node, granted)?;
         Ok(granted)
     }
 
@@ -224,7 +213,7 @@ impl Budget {
         ensures err { OnErr result (self.new ≡ self.old) }
         ensures absent { OnErr result (spent_cell self.old node ≡ 0) }
     {
-        raise(&mut self.shares.first, node, spent)
+        self.ledger.raise_spent(node, spent)
     }
 
     /// Raises what a node moved to another, or granted where both are one, to at least this total.
@@ -241,7 +230,7 @@ impl Budget {
         ensures err { OnErr result (self.new ≡ self.old) }
         ensures absent { OnErr result (moved_cell self.old from to ≡ 0) }
     {
-        raise_row(&mut self.shares.second, alloc, from, to, total)
+        self.ledger.raise_moved(alloc, from, to, total)
     }
 
     /// Raises what a node granted to at least this total. Memory is asked for only where it granted
@@ -253,37 +242,6 @@ impl Budget {
         ensures absent { OnErr result (granted_cell self.old node ≡ 0) }
     {
         self.raise_moved(alloc, node, node, total)
-    }
-
-    // That each of the first nodes has a right, as far as it can be told by one look at the rights
-    // that one node moved, where no other did: they cost least so, and mostly nobody is short.
-    fn surely_all_have(&self, setter: u8, count: u64, nodes: usize) -> bool
-        requires { nodes ≤ 256 }
-        ensures { IsTrue result → AllHaveRights (rights (budget_of self.now setter count)) nodes }
-    {
-        let Some((from, row)) = only_row(&self.shares.second) else {
-            return false;
-        };
-        let (came, spent) = (row.as_slice(), self.shares.first.as_slice());
-        let place = usize::from(from);
-        if !are_above(came, spent, 0, place.min(nodes)) {
-            return false;
-        }
-        if !are_above(came, spent, place + 1, nodes) {
-            return false;
-        }
-        self.mover_has_some(setter, count, from, row)
-    }
-
-    // That the only node that moved rights has some left.
-    fn mover_has_some(&self, setter: u8, count: u64, from: u8, row: &Cells) -> bool
-        requires { self.now.second ≡ (from, row.now) ∷ [] }
-        ensures { IsTrue result → pos 0 <ℤ rights (budget_of self.now setter count) from }
-    {
-        let own = if from == setter { u128::from(count) } else { 0 };
-        let given = own + u128::from(number_of(row, from));
-        let gone = total_of_others(row, from) + u128::from(self.spent(from));
-        gone < given
     }
 
     // What the node will have spent, or the refusal.
@@ -369,25 +327,25 @@ impl Join for Budget {
     ghost laws = { pair_order numbers_order (map_order nat_cmp numbers_order) };
 
     fn joined(&self, alloc: Global, other: &Self) -> Result<Self, AllocError> {
-        let shares = self.shares.joined(alloc, &other.shares)?;
-        Ok(Budget { shares })
+        let ledger = self.ledger.joined(alloc, &other.ledger)?;
+        Ok(Budget { ledger })
     }
 
     fn below(&self, other: &Self) -> bool {
-        self.shares.below(&other.shares)
+        self.ledger.below(&other.ledger)
     }
 
     fn is_bottom(&self) -> bool {
-        self.shares.is_bottom()
+        self.ledger.is_bottom()
     }
 
     fn copied(&self, alloc: Global) -> Result<Self, AllocError> {
-        let shares = self.shares.copied(alloc)?;
-        Ok(Budget { shares })
+        let ledger = self.ledger.copied(alloc)?;
+        Ok(Budget { ledger })
     }
 
     fn join_in(&mut self, alloc: Global, other: Self) -> Result<(), AllocError> {
-        let Budget { shares } = other;
-        self.shares.join_in(alloc, shares)
+        let Budget { ledger } = other;
+        self.ledger.join_in(alloc, ledger)
     }
 }

@@ -9,6 +9,7 @@ mod cells;
 mod fault;
 mod hits;
 pub mod laws;
+mod ledger;
 mod shortage;
 
 pub use budget::Budget;

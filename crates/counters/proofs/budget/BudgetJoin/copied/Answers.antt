@@ -1,4 +1,4 @@
 use Rattle.counters.proofs.budget.BudgetJoin.copied.Goals as goal
 
 pub returns : goal.returns
-returns c = rw (← c.self.view_is) c.in_ok-shares.ensures
+returns c = rw (← c.self.view_is) c.in_ok-ledger.ensures

@@ -1,0 +1,23 @@
+-- The balance of each node, side by side.
+use Rattle.std.specs.Prelude.{◌≡◌, ◌<◌, ◌≤◌, ◌^◌, ℕ, List, length, get_or, ℤ, pos}
+use Rattle.counters.specs.Cells.{Shares, balance_of, moved_cell, spent_cell}
+use Rattle.counters.specs.Sums.{AreWithin}
+
+-- at each place stands the balance of the node
+abbrev pub AreReadFrom : Shares → List ℤ → Type 0
+AreReadFrom shares balances =
+    (node : ℕ) → node < length balances → get_or balances node (pos 0) ≡ balance_of shares node
+
+-- the balance of each node, up to the last one that spent, moved or was given anything
+pub record AreBalances (shares : Shares) (balances : List ℤ) : Type 0 where
+  pub few : length balances ≤ 256
+  pub read : AreReadFrom shares balances
+  pub small : AreWithin (2 ^ 100) balances
+  pub spent : (node : ℕ) → length balances ≤ node → spent_cell shares node ≡ 0
+  pub from : (from to : ℕ) → length balances ≤ from → moved_cell shares from to ≡ 0
+  pub to : (from to : ℕ) → length balances ≤ to → moved_cell shares from to ≡ 0
+
+-- new is old, with zeros behind
+pub record IsLonger (old new : List ℤ) : Type 0 where
+  pub len : length old ≤ length new
+  pub each : (place : ℕ) → get_or new place (pos 0) ≡ get_or old place (pos 0)
