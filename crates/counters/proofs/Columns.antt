@@ -1,5 +1,5 @@
 -- What each entry of a map adds to the sums by place.
-use Rattle.std.specs.Prelude.{◌≡◌, ◌≢◌, ◌<◌, ◌≤◌, ◌+◌, ◌*◌, ◌^◌, ◌==◌, ℕ, cond, List, [], ◌∷◌, length, get_or, slice_index, slice_set, map, ℤ, pos, ◌+ℤ◌, ◌-ℤ◌, ◌≤ℤ◌}
+use Rattle.std.specs.Prelude.{◌≡◌, ◌<◌, ◌≤◌, ◌+◌, ◌*◌, ◌^◌, ◌==◌, ℕ, cond, List, [], ◌∷◌, length, get_or, slice_index, slice_set, map, ℤ, pos, ◌+ℤ◌, ◌-ℤ◌, ◌≤ℤ◌}
 use Rattle.std.specs.List.{range_with_len}
 use Rattle.std.proofs.Common.{ap, arith, refl, subst, sym, ◌∙◌, ⊎_elim}
 use Rattle.std.proofs.Math.ListN.{length-set}
@@ -28,18 +28,6 @@ pub went-entry : (k : ℕ) (v : Cells) (rest : Rows) → AreApart ((k, v) ∷ re
 unfolding row_cell
 went-entry k v rest apart i = counts-entry [] (λ q (held : Cells). sum_others node_numbers q (cell held))
     (λ q. total_of_others-empty q) k v rest apart i
-
-pub went-entry-own : (k : ℕ) (v : Cells) (rest : Rows) → AreApart ((k, v) ∷ rest) → (i : ℕ) → k ≡ i →
-    went_from ((k, v) ∷ rest) i ≡ sum_others node_numbers i (cell v) + went_from rest i
-went-entry-own k v rest apart i same = went-entry k v rest apart i
-    ∙ ap (λ n. n + went_from rest i) (chosen-same i k (sum_others node_numbers k (cell v)) 0 (sym same)
-    ∙ ap (λ j. sum_others node_numbers j (cell v)) same)
-
-pub went-entry-other : (k : ℕ) (v : Cells) (rest : Rows) → AreApart ((k, v) ∷ rest) → (i : ℕ) → k ≢ i →
-    went_from ((k, v) ∷ rest) i ≡ 0 + went_from rest i
-went-entry-other k v rest apart i ne = went-entry k v rest apart i
-    ∙ ap (λ n. n + went_from rest i)
-    (chosen-other i k (sum_others node_numbers k (cell v)) 0 (λ same. ne (sym same)))
 
 -- what is less than 0 by the numbers before a place, where 0 is left from there on
 pub record NegatedBelow (numbers : List ℕ) (n : ℕ) (sums : List ℤ) (place : ℕ) : Type 0 where

@@ -8,3 +8,4 @@ pub mod WriteLemmas
 pub mod CounterJoins
 pub mod AllRead
 pub mod BalanceLemmas
+pub mod MovedBalances

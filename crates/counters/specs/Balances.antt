@@ -1,5 +1,5 @@
 -- The balance of each node, side by side.
-use Rattle.std.specs.Prelude.{◌≡◌, ◌<◌, ◌≤◌, ◌^◌, ℕ, List, length, get_or, ℤ, pos}
+use Rattle.std.specs.Prelude.{◌≡◌, ◌<◌, ◌≤◌, ◌^◌, ◌==◌, ℕ, if◌then◌else◌, List, length, get_or, ℤ, pos, ◌+ℤ◌, ◌-ℤ◌}
 use Rattle.counters.specs.Cells.{Shares, balance_of, moved_cell, spent_cell}
 use Rattle.counters.specs.Sums.{AreWithin}
 
@@ -21,3 +21,16 @@ pub record AreBalances (shares : Shares) (balances : List ℤ) : Type 0 where
 pub record IsLonger (old new : List ℤ) : Type 0 where
   pub len : length old ≤ length new
   pub each : (place : ℕ) → get_or new place (pos 0) ≡ get_or old place (pos 0)
+
+-- what comes to a node of so much that is moved, and what goes from it; a grant comes from nobody
+abbrev pub comes_to : ℕ → ℕ → ℕ → ℕ
+comes_to to amount node = if node == to then amount else 0
+
+abbrev pub goes_from : ℕ → ℕ → ℕ → ℕ → ℕ
+goes_from from to amount node = if from == to then 0 else (if node == from then amount else 0)
+
+-- so much is moved from one node to another
+pub record MovesBetween (from to amount : ℕ) (old new : List ℤ) : Type 0 where
+  pub len : length new ≡ length old
+  pub each : (node : ℕ) → node < length old → get_or new node (pos 0)
+      ≡ get_or old node (pos 0) +ℤ pos (comes_to to amount node) -ℤ pos (goes_from from to amount node)

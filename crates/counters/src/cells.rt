@@ -65,32 +65,6 @@ fn others_of(total: u128, cells: &Cells, node: u8) -> u128
     total - u128::from(number_of(cells, node))
 }
 
-/// The numbers of the nodes other than this one, together.
-pub(crate) fn total_of_others(cells: &Cells, node: u8) -> u128
-    ensures value { result ≡ sum_others node_numbers node (cell cells.now) }
-    ensures small { result ≤ 256 * 2 ^ 64 }
-{
-    others_of(total(cells), cells, node)
-}
-
-/// What came to a node by the rows, and what went from it to others: each row is read once.
-pub(crate) fn came_and_went(rows: &Rows, node: u8) -> (u128, u128)
-    ensures came { result.0 ≡ came_to rows.now node }
-    ensures went { result.1 ≡ went_from rows.now node }
-    ensures small_came { result.0 ≤ 256 * 2 ^ 64 }
-    ensures small_went { result.1 ≤ 256 * 2 ^ 64 }
-{
-    let mut came = 0u128;
-    let mut went = 0u128;
-    for (from, row) in rows.iter() {
-        if *from == node {
-            went += total_of_others(row, node);
-        }
-        came += u128::from(number_of(row, node));
-    }
-    (came, went)
-}
-
 /// What each row has at its own node, together.
 pub(crate) fn total_of_own(rows: &Rows) -> u128
     ensures { result ≡ sum_below node_numbers (λ node. row_cell rows.now node node) }

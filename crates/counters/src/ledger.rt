@@ -1,15 +1,15 @@
 //! What the nodes spent and moved, beside the balance of each.
 
-ghost use Rattle.std.specs.Prelude.{◌≡◌, ◌≤◌, ◌<◌, ◌^◌, ◌≤ℤ◌, ◌+ℤ◌, length, map, max, pos, get_or};
+ghost use Rattle.std.specs.Prelude.{◌≡◌, ◌≤◌, ◌<◌, ◌^◌, ◌≤ℤ◌, ◌+ℤ◌, ℕ, length, map, max, pos, get_or};
 ghost use Rattle.std.specs.Prelude.{IfOk, OnOk, OnErr};
 ghost use Rattle.std.specs.List.{range_with_len};
 ghost use Rattle.counters.specs.Sums.{AreWithin};
 ghost use Rattle.counters.specs.Cells.{no_shares, spent_cell, moved_cell, balance_of};
 ghost use Rattle.counters.specs.Cells.{WritesSpent, WritesMoved};
-ghost use Rattle.counters.specs.Balances.{AreReadFrom, IsLonger};
+ghost use Rattle.counters.specs.Balances.{AreReadFrom, IsLonger, MovesBetween};
 
 use crate::cells::{
-    Cells, Rows, add_rows, came_and_went, number_in_row, number_of, raise, raise_row, write_negated,
+    Cells, Rows, add_rows, number_in_row, number_of, raise, raise_row, write_negated,
 };
 use lattice_laws::{Join, PairOf};
 use std::alloc::{AllocError, Global};
@@ -86,14 +86,26 @@ fn settled(alloc: Global, shares: &SpentAndMoved, nodes: usize) -> Result<Vec<i1
     Ok(balances)
 }
 
-// The balance of a node, by all rows.
-fn balance_by_rows(shares: &SpentAndMoved, node: u8) -> i128
-    ensures balance { result ≡ balance_of shares.now node }
-    ensures small { (pos 0 ≤ℤ (result +ℤ pos (2 ^ 100))) × (result ≤ℤ pos (2 ^ 100)) }
+// No balance is further from 0 than this: that each number has 64 bits comes with the answer, which
+// isn't used.
+fn are_small(shares: &SpentAndMoved)
+    ensures { (node : ℕ) → (pos 0 ≤ℤ (balance_of shares.now node +ℤ pos (2 ^ 100)))
+        × (balance_of shares.now node ≤ℤ pos (2 ^ 100)) }
 {
-    let (came, went) = came_and_went(&shares.second, node);
-    let gone = went + u128::from(number_of(&shares.first, node));
-    came as i128 - gone as i128
+    let _ = shares.is_bottom();
+}
+
+// Takes so much from the balance of a node and adds it to another's. A node that grants itself rights
+// has nothing taken.
+fn move_between(balances: &mut [i128], from: u8, to: u8, amount: u64)
+    requires inside { (from < length balances.old) × (to < length balances.old) }
+    requires small { AreWithin (2 ^ 100) balances.old }
+    ensures { MovesBetween from to amount balances.old balances.new }
+{
+    if from != to {
+        balances[usize::from(from)] -= i128::from(amount);
+    }
+    balances[usize::from(to)] += i128::from(amount);
 }
 
 // Copies the balance of each node that there is a place for, 0 where there is none.
@@ -160,12 +172,14 @@ impl Ledger {
         ensures err { OnErr result (self.new ≡ self.old) }
         ensures absent { OnErr result (spent_cell self.old node ≡ 0) }
     {
-        if spent <= number_of(&self.shares.first, node) {
+        let before = number_of(&self.shares.first, node);
+        if spent <= before {
             return Ok(());
         }
         make_place(&mut self.balances, node)?;
         raise(&mut self.shares.first, node, spent)?;
-        self.balances[usize::from(node)] = balance_by_rows(&self.shares, node);
+        are_small(&self.shares);
+        self.balances[usize::from(node)] -= i128::from(spent - before);
         Ok(())
     }
 
@@ -183,13 +197,15 @@ impl Ledger {
         ensures err { OnErr result (self.new ≡ self.old) }
         ensures absent { OnErr result (moved_cell self.old from to ≡ 0) }
     {
-        if total <= number_in_row(&self.shares.second, from, to) {
+        let before = number_in_row(&self.shares.second, from, to);
+        if total <= before {
             return Ok(());
         }
         make_place(&mut self.balances, from)?;
         make_place(&mut self.balances, to)?;
         raise_row(&mut self.shares.second, alloc, from, to, total)?;
-        settle(&self.shares, &mut self.balances);
+        are_small(&self.shares);
+        move_between(&mut self.balances, from, to, total - before);
         Ok(())
     }
 }

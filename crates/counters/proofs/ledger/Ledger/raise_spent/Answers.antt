@@ -1,6 +1,8 @@
-use Rattle.std.specs.Prelude.{◌≡◌, ◌<◌, length}
-use Rattle.std.proofs.Common.{arith}
+use Rattle.std.specs.Prelude.{◌≡◌, ◌<◌, ◌^◌, ℕ, ℤ, get_or, length, pos, ◌+ℤ◌, ◌-ℤ◌, ◌≤ℤ◌}
+use Rattle.std.proofs.Common.{ap, arith, subst, sym, ◌∙◌}
 use Rattle.std.proofs.lemmas.Int.{ints}
+use Rattle.std.proofs.lemmas.List.{get_or_default}
+use Rattle.counters.specs.Cells.{Shares, balance_of}
 use mir.Syntax.{w128}
 use mir.Val.{of_z, to_z}
 use Rattle.counters.proofs.BalanceLemmas.{longer-balances, spent-written}
@@ -24,14 +26,31 @@ invariant_of-self-in_err-raise c =
 pub invariant_of-self-2 : goal.invariant_of-self-2
 invariant_of-self-2 c =
     let l = c.self.inside in
+    let items = c.make_place.new.balances.items in
+    let node = c.args.node in
     let made = c.make_place.ensures in
-    let longer = longer-balances l.shares l.balances.items c.make_place.new.balances.items c.self.invariant made.longer
+    let after : Shares = record { first = c.raise.new.cells; second = l.shares.second } in
+    let longer = longer-balances l.shares l.balances.items items c.self.invariant made.longer
     (made.few c.self.invariant.few) in
-    let place : c.args.node < length c.make_place.new.balances.items = c.in_ok-make_place.ensures.ok in
-    let small = c.balance_by_rows.ensures.small in
-    let low = small.0 in
-    let high = small.1 in
-    let kept : to_z w128 (of_z w128 c.balance_by_rows.result) ≡ c.balance_by_rows.result = omega (arith, ints) in
-    rw (c.from.ensures, kept)
-    (spent-written l.shares c.raise.new.cells c.make_place.new.balances.items c.args.node _ c.balance_by_rows.result longer
-    place c.in_ok-raise.ensures.ok c.balance_by_rows.ensures.balance small)
+    let place : node < length items = c.in_ok-make_place.ensures.ok in
+    let writes = c.in_ok-raise.ensures.ok in
+    let held = c.index_mut.result.now in
+    let less = c.from.result in
+    let new : ℤ = to_z w128 (of_z w128 (to_z w128 (of_z w128 held) -ℤ to_z w128 (of_z w128 less))) in
+    let is : new ≡ balance_of after node =
+    let was = c.index_mut.ensures.value ∙ ap (λ (i : ℕ). get_or items i held) c.from-2.ensures
+    ∙ get_or_default items node held (pos 0) place ∙ longer.read node place in
+    let within = longer.small node in
+    let low = within.0 in
+    let high = within.1 in
+    let read = longer.read node place in
+    let before = c.number_of-before.ensures in
+    let more = c.if-spent-before.false in
+    let fits = c.ranges.spent.fits in
+    let taken = c.from.ensures in
+    let number = writes.this_cell in
+    omega (arith, ints)
+    in
+    rw (c.from-2.ensures)
+    (spent-written l.shares c.raise.new.cells items node _ new longer place writes is
+    (subst (λ (b : ℤ). (pos 0 ≤ℤ (b +ℤ pos (2 ^ 100))) × (b ≤ℤ pos (2 ^ 100))) (sym is) (c.are_small.ensures node)))

@@ -1,0 +1,200 @@
+-- What a move of rights makes of the balances.
+use Rattle.std.specs.Prelude.{◌≡◌, ◌<◌, ◌≤◌, ◌==◌, ◌+◌, ◌-◌, ◌^◌, ℕ, zero, suc, List, length, get_or, slice_set, ℤ, pos, ◌+ℤ◌, ◌-ℤ◌, ◌≤ℤ◌}
+use Rattle.std.proofs.Common.{ap, arith, cond, subst, sym, ◌∙◌, ⊎_elim}
+use Rattle.std.proofs.Math.ListN.{length-set}
+use Rattle.std.proofs.lemmas.Bool.{cases_eq, cases_lt}
+use Rattle.std.proofs.lemmas.Int.{ints}
+use Rattle.std.proofs.lemmas.List.{get_or-set_same, get_or-set_other, get_or_past}
+use Rattle.counters.specs.Sums.{node_numbers, sum_below, AreWithin}
+use Rattle.counters.specs.Cells.{Rows, Shares, balance_of, came_to, row_cell, spent_cell, went_from, WritesRowCell}
+use Rattle.counters.specs.Balances.{AreBalances, MovesBetween, comes_to, goes_from}
+use Rattle.counters.proofs.BalanceLemmas.{moved-settled}
+use Rattle.counters.proofs.CellLemmas.{below-numbers, chosen-other, chosen-same}
+use Rattle.counters.proofs.SumLemmas.{sum-same}
+
+-- ---- in the row of balances
+
+-- from one node to another
+pub moved-apart : (from to amount : ℕ) (old : List ℤ) (less more : ℤ) → (from ≡ to → ⊥) → from < length old →
+    to < length old → less ≡ get_or old from (pos 0) -ℤ pos amount →
+    more ≡ get_or (slice_set old from less) to (pos 0) +ℤ pos amount →
+    MovesBetween from to amount old (slice_set (slice_set old from less) to more)
+moved-apart from to amount old less more ne has_from has_to is_less is_more =
+    let first = slice_set old from less in
+    let long = length-set old from less in
+    let longer = length-set first to more in
+    let kept = get_or-set_other old from to less (pos 0) (λ e. ne (sym e)) in
+    record {
+      len = omega arith;
+      each = λ node low.
+          let gone = chosen-other from to 0 (cond (node == from) amount 0) ne in
+          ⊎_elim
+          (λ same.
+          let comes = chosen-same node to amount 0 same in
+          let goes = chosen-other node from amount 0 (λ e. ne (sym e ∙ same)) in
+          let has : to < length first = omega arith in
+          let there = ap (λ n. get_or (slice_set first to more) n (pos 0)) same
+          ∙ get_or-set_same first to more (pos 0) has in
+          let was = ap (λ n. get_or old n (pos 0)) same in
+          omega (arith, ints))
+          (λ other.
+          let comes = chosen-other node to amount 0 other in
+          let stays = get_or-set_other first to node more (pos 0) other in
+          ⊎_elim
+          (λ own.
+          let goes = chosen-same node from amount 0 own in
+          let here = ap (λ n. get_or first n (pos 0)) own ∙ get_or-set_same old from less (pos 0) has_from in
+          let was = ap (λ n. get_or old n (pos 0)) own in
+          omega (arith, ints))
+          (λ else.
+          let goes = chosen-other node from amount 0 else in
+          let here = get_or-set_other old from node less (pos 0) else in
+          omega (arith, ints))
+          (cases_eq node from))
+          (cases_eq node to);
+    }
+
+-- a grant
+pub granted-own : (from to amount : ℕ) (old : List ℤ) (more : ℤ) → from ≡ to → to < length old →
+    more ≡ get_or old to (pos 0) +ℤ pos amount → MovesBetween from to amount old (slice_set old to more)
+granted-own from to amount old more same has is_more =
+    let long = length-set old to more in
+    record {
+      len = omega arith;
+      each = λ node low.
+          let none = chosen-same from to 0 (cond (node == from) amount 0) same in
+          ⊎_elim
+          (λ own.
+          let comes = chosen-same node to amount 0 own in
+          let there = ap (λ n. get_or (slice_set old to more) n (pos 0)) own ∙ get_or-set_same old to more (pos 0) has in
+          let was = ap (λ n. get_or old n (pos 0)) own in
+          omega (arith, ints))
+          (λ other.
+          let comes = chosen-other node to amount 0 other in
+          let stays = get_or-set_other old to node more (pos 0) other in
+          omega (arith, ints))
+          (cases_eq node to);
+    }
+
+-- the same where places and values are read first
+pub moved-at : (from to amount : ℕ) (old first : List ℤ) (f t : ℕ) (less more : ℤ) → (from ≡ to → ⊥) →
+    from < length old → to < length old → f ≡ from → t ≡ to → first ≡ slice_set old f less →
+    less ≡ get_or old f (pos 0) -ℤ pos amount → more ≡ get_or first t (pos 0) +ℤ pos amount →
+    MovesBetween from to amount old (slice_set first t more)
+moved-at from to amount old first f t less more ne has_from has_to is_f is_t is_first is_less is_more =
+    subst (λ (a : ℕ). MovesBetween a to amount old (slice_set first t more)) is_f
+    (subst (λ (b : ℕ). MovesBetween f b amount old (slice_set first t more)) is_t
+    (subst (λ (l : List ℤ). MovesBetween f t amount old (slice_set l t more)) (sym is_first)
+    (moved-apart f t amount old less more (λ e. ne (sym is_f ∙ e ∙ is_t)) (omega (arith, has_from, is_f))
+    (omega (arith, has_to, is_t)) is_less (is_more ∙ ap (λ (l : List ℤ). get_or l t (pos 0) +ℤ pos amount) is_first))))
+
+pub granted-at : (from to amount : ℕ) (old first : List ℤ) (t : ℕ) (more : ℤ) → from ≡ to → to < length old → t ≡ to →
+    first ≡ old → more ≡ get_or first t (pos 0) +ℤ pos amount → MovesBetween from to amount old (slice_set first t more)
+granted-at from to amount old first t more same has is_t is_first is_more =
+    subst (λ (b : ℕ). MovesBetween from b amount old (slice_set first t more)) is_t
+    (subst (λ (l : List ℤ). MovesBetween from t amount old (slice_set l t more)) (sym is_first)
+    (granted-own from t amount old more (same ∙ sym is_t) (omega (arith, has, is_t))
+    (is_more ∙ ap (λ (l : List ℤ). get_or l t (pos 0) +ℤ pos amount) is_first)))
+
+-- ---- in the sums of the cells
+
+-- a sum of which one place changed
+sum-but-one : (n k : ℕ) (f g : ℕ → ℕ) → k < n → ((i : ℕ) → (i ≡ k → ⊥) → g i ≡ f i) →
+    sum_below n g + f k ≡ sum_below n f + g k
+sum-but-one zero k f g low h = absurd (omega arith)
+sum-but-one (suc n) k f g low h = ⊎_elim
+    (λ e.
+    let rest = sum-same n g f (λ i less. h i (λ same. omega (arith, same, less, e))) in
+    let here : g n ≡ g k = ap g e in
+    let was : f n ≡ f k = ap f e in
+    omega arith)
+    (λ ne.
+    let rest = sum-but-one n k f g (omega (arith, low, ne)) h in
+    let here = h n ne in
+    omega arith)
+    (cases_eq n k)
+
+came-moved : (old new : Rows) (from to total before node : ℕ) → from < 256 → WritesRowCell old new from to total →
+    before ≡ row_cell old from to → before ≤ total →
+    came_to new node ≡ came_to old node + comes_to to (total - before) node
+came-moved old new from to total before node low writes was less = ⊎_elim
+    (λ same.
+    let comes = chosen-same node to (total - before) 0 same in
+    let sums = sum-but-one node_numbers from (λ f. row_cell old f node) (λ f. row_cell new f node) (below-numbers from low)
+    (λ f ne. writes.other_cells f node (λ both. ne both.0)) in
+    let here = ap (row_cell new from) same ∙ writes.this_cell in
+    let there = ap (row_cell old from) same in
+    omega arith)
+    (λ other.
+    let comes = chosen-other node to (total - before) 0 other in
+    let sums = sum-same node_numbers (λ f. row_cell new f node) (λ f. row_cell old f node)
+    (λ f l. writes.other_cells f node (λ both. other both.1)) in
+    omega arith)
+    (cases_eq node to)
+
+-- what goes from a node is that of the others
+went-same : (old new : Rows) (node : ℕ) → ((j : ℕ) → (j ≡ node → ⊥) → row_cell new node j ≡ row_cell old node j) →
+    went_from new node ≡ went_from old node
+went-same old new node h = sum-same node_numbers _ _ (λ j l. ⊎_elim
+    (λ e. chosen-same j node 0 (row_cell new node j) e ∙ sym (chosen-same j node 0 (row_cell old node j) e))
+    (λ ne. chosen-other j node 0 (row_cell new node j) ne ∙ h j ne ∙ sym (chosen-other j node 0 (row_cell old node j) ne))
+    (cases_eq j node))
+
+went-moved : (old new : Rows) (from to total before node : ℕ) → to < 256 → WritesRowCell old new from to total →
+    before ≡ row_cell old from to → before ≤ total →
+    went_from new node ≡ went_from old node + goes_from from to (total - before) node
+went-moved old new from to total before node low writes was less = ⊎_elim
+    (λ same.
+    let none = chosen-same from to 0 (cond (node == from) (total - before) 0) same in
+    let sums = went-same old new node (λ j ne. writes.other_cells node j
+    (λ both. ne (both.1 ∙ sym same ∙ sym both.0))) in
+    omega arith)
+    (λ apart.
+    let gone = chosen-other from to 0 (cond (node == from) (total - before) 0) apart in
+    ⊎_elim
+    (λ own.
+    let goes = chosen-same node from (total - before) 0 own in
+    let far : to ≡ node → ⊥ = λ e. apart (sym own ∙ sym e) in
+    let sums = sum-but-one node_numbers to (λ j. cond (j == node) 0 (row_cell old node j))
+    (λ j. cond (j == node) 0 (row_cell new node j)) (below-numbers to low)
+    (λ j ne. ap (λ x. cond (j == node) 0 x) (writes.other_cells node j (λ both. ne both.1))) in
+    let here = chosen-other to node 0 (row_cell new node to) far ∙ ap (λ n. row_cell new n to) own ∙ writes.this_cell in
+    let there = chosen-other to node 0 (row_cell old node to) far ∙ ap (λ n. row_cell old n to) own in
+    omega arith)
+    (λ other.
+    let goes = chosen-other node from (total - before) 0 other in
+    let sums = went-same old new node (λ j ne. writes.other_cells node j (λ both. other both.0)) in
+    omega arith)
+    (cases_eq node from))
+    (cases_eq from to)
+
+-- ---- so the balances are those of the cells again
+
+pub moved-written : (shares after : Shares) (old new : List ℤ) (from to total before : ℕ) → AreBalances shares old →
+    after.first ≡ shares.first → WritesRowCell shares.second after.second from to total →
+    before ≡ row_cell shares.second from to → before ≤ total → from < length old → to < length old →
+    MovesBetween from to (total - before) old new →
+    ((node : ℕ) → (pos 0 ≤ℤ (balance_of after node +ℤ pos (2 ^ 100))) × (balance_of after node ≤ℤ pos (2 ^ 100))) →
+    AreBalances after new
+moved-written shares after old new from to total before h same writes was less has_from has_to moves small =
+    let few = h.few in
+    let low : from < 256 = omega (arith, few, has_from) in
+    let low_to : to < 256 = omega (arith, few, has_to) in
+    let len = moves.len in
+    let read : (node : ℕ) → node < length new → get_or new node (pos 0) ≡ balance_of after node =
+    λ node inside.
+    let each = moves.each node (omega (arith, inside, len)) in
+    let balance = h.read node (omega (arith, inside, len)) in
+    let came = came-moved shares.second after.second from to total before node low writes was less in
+    let went = went-moved shares.second after.second from to total before node low_to writes was less in
+    let spent = ap (λ cells. spent_cell (record { first = cells; second = after.second }) node) same in
+    omega (arith, ints)
+    in
+    let within : AreWithin (2 ^ 100) new = λ place. ⊎_elim
+    (λ inside. subst (λ (b : ℤ). (pos 0 ≤ℤ (b +ℤ pos (2 ^ 100))) × (b ≤ℤ pos (2 ^ 100))) (sym (read place inside))
+    (small place))
+    (λ past. subst (λ (b : ℤ). (pos 0 ≤ℤ (b +ℤ pos (2 ^ 100))) × (b ≤ℤ pos (2 ^ 100)))
+    (sym (get_or_past new place (pos 0) past)) (omega arith, omega arith))
+    (cases_lt place (length new))
+    in
+    moved-settled shares after old new from to total h same writes has_from has_to len read within
