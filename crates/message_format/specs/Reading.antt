@@ -193,6 +193,15 @@ key_at all nodes left = do
   body ← body_at all node.1
   Ok (record { clock = clock.0; node = node.0; body = body.0 }, body.1)
 
+-- what was counted under a key: the executions, the shifts and the grants
+unfoldable pub counted_at : ℕ → ℕ → KeyValue → Form → List ℕ →
+    Result ((List (ℕ × ℕ × ℕ) × List (ℕ × ℕ × ℕ × ℕ) × List (ℕ × ℕ × ℕ)) × List ℕ) WireFault
+counted_at all nodes key form left = do
+  execs ← execs_at all nodes key left
+  shifts ← shifts_at all nodes key execs.1
+  grants ← grants_at all nodes key form shifts.1
+  Ok ((execs.0, shifts.0, grants.0), grants.1)
+
 -- the entry after another one
 unfoldable pub entry_at : ℕ → ℕ → Form → Option EntryValue → List ℕ → Result (EntryValue × List ℕ) WireFault
 entry_at all nodes form last left = do

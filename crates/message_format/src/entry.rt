@@ -1,12 +1,13 @@
 //! What a message says of one name.
 
-ghost use Rattle.std.specs.Prelude.{◌≡◌, option_map};
+ghost use Rattle.std.specs.Prelude.{◌≡◌, ◌&&◌, nat_lt, nat_le, option_map};
+ghost use Rattle.actions.specs.Limits.{max_name};
 ghost use Rattle.actions.specs.Names.{is_name};
 ghost use Rattle.actions.specs.Canonical.{canonical};
 ghost use Rattle.stamp_register.specs.Keys.{key_value, body_value};
 ghost use Rattle.message_format.specs.Messages.{entry_value};
 ghost use Rattle.message_format.specs.Reading.{Gives, wants, is_above, is_canonical_text, name_at};
-ghost use Rattle.message_format.specs.Reading.{text_at, body_at, key_at, entry_at};
+ghost use Rattle.message_format.specs.Reading.{text_at, body_at, key_at, counted_at, entry_at};
 
 use crate::cells::{read_execs, read_grants, read_hits, read_shifts};
 use crate::fault::WireFault;
@@ -24,6 +25,13 @@ const MAX_NAME: u8 = 128;
 
 /// The most bytes of an action text.
 const MAX_TEXT: u16 = 1024;
+
+/// The executions, the moved rights and the granted rights of an entry.
+type Counted = (
+    Vec<(u8, u8, u64)>,
+    Vec<(u8, u8, u8, u64)>,
+    Vec<(u8, u8, u64)>,
+);
 
 /// The name that these bytes are, which begin at the offset.
 fn parse_name(alloc: Global, offset: usize, bytes: &[u8]) -> Result<Name, WireFault>
@@ -47,6 +55,13 @@ fn is_above(last: Option<&Name>, name: &Name) -> bool
     last.is_none_or(|last| last < name)
 }
 
+/// Whether a name may have so many bytes.
+fn is_name_len(len: u8) -> bool
+    ensures { result ≡ (nat_lt 0 len && nat_le len max_name) }
+{
+    len != 0 && len <= MAX_NAME
+}
+
 /// A name, which is above the last one.
 #[tactic(auto, unfolding(crate::specs::Reading::name_at))]
 fn read_name<'a>(
@@ -59,7 +74,7 @@ fn read_name<'a>(
         (name_at whole.len (option_map (λ n. n.now) last.entry) rest.now) }
 {
     let (len, text) = read_byte(whole, rest)?;
-    if len == 0 || len > MAX_NAME {
+    if !is_name_len(len) {
         return Err(WireFault::BadName {
             offset: whole.offset(rest),
         });
@@ -137,8 +152,25 @@ fn read_key(alloc: Global, whole: Whole, rest: &[u8]) -> Result<(Key, &[u8]), Wi
     Ok((Key { clock, node, body }, rest))
 }
 
+/// What was counted under a key: the executions, the moved rights and the granted rights.
+#[tactic(auto, unfolding(crate::specs::Reading::counted_at))]
+fn read_counted<'a>(
+    alloc: Global,
+    whole: Whole,
+    form: Form,
+    key: &Key,
+    rest: &'a [u8],
+) -> Result<(Counted, &'a [u8]), WireFault>
+    ensures { Gives (λ x. ((x.0.0.items, x.0.1.items, x.0.2.items), x.1.now)) result
+        (counted_at whole.len whole.nodes (key_value key.now) form rest.now) }
+{
+    let (execs, rest) = read_execs(alloc, whole, key, rest)?;
+    let (shifts, rest) = read_shifts(alloc, whole, key, rest)?;
+    let (grants, rest) = read_grants(alloc, whole, key, form, rest)?;
+    Ok(((execs, shifts, grants), rest))
+}
+
 /// The entry after the last one.
-#[tactic(auto, unfolding(crate::specs::Reading::entry_at))]
 pub(crate) fn read_entry<'a>(
     alloc: Global,
     whole: Whole,
@@ -153,9 +185,7 @@ pub(crate) fn read_entry<'a>(
     let (name, rest) = read_name(alloc, whole, last.map(|entry| &entry.name), rest)?;
     let (key, rest) = read_key(alloc, whole, rest)?;
     let (hits, rest) = read_hits(alloc, whole, rest)?;
-    let (execs, rest) = read_execs(alloc, whole, &key, rest)?;
-    let (shifts, rest) = read_shifts(alloc, whole, &key, rest)?;
-    let (grants, rest) = read_grants(alloc, whole, &key, form, rest)?;
+    let ((execs, shifts, grants), rest) = read_counted(alloc, whole, form, &key, rest)?;
     let entry = NameEntry {
         name,
         key,

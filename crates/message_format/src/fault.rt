@@ -71,22 +71,23 @@ impl fmt::Display for WireFault {
     ghost output = { λ e. Some (wire_fault_text e) };
 
     fn fmt<W: fmt::Write>(&self, f: &mut fmt::Formatter<W>) -> fmt::Result {
-        match self {
-            WireFault::Magic { offset } => write!(f, "W1 Magic offset={offset}"),
-            WireFault::Short { offset } => write!(f, "W2 Short offset={offset}"),
-            WireFault::Long { offset } => write!(f, "W3 Long offset={offset}"),
-            WireFault::BadNode { offset } => write!(f, "W4 BadNode offset={offset}"),
-            WireFault::NameOrder { offset } => write!(f, "W5 NameOrder offset={offset}"),
-            WireFault::BadName { offset } => write!(f, "W6 BadName offset={offset}"),
-            WireFault::BadBody { offset } => write!(f, "W7 BadBody offset={offset}"),
-            WireFault::NotCanonical { offset } => write!(f, "W8 NotCanonical offset={offset}"),
-            WireFault::CellOrder { offset } => write!(f, "W9 CellOrder offset={offset}"),
-            WireFault::ZeroCell { offset } => write!(f, "W10 ZeroCell offset={offset}"),
-            WireFault::BadTerm { offset } => write!(f, "W11 BadTerm offset={offset}"),
-            WireFault::TooBig { offset } => write!(f, "W12 TooBig offset={offset}"),
-            WireFault::OutOfMemory => f.write_str("W13 OutOfMemory"),
-            WireFault::NoGrant { offset } => write!(f, "W14 NoGrant offset={offset}"),
-        }
+        let (text, offset) = match self {
+            WireFault::Magic { offset } => ("W1 Magic", offset),
+            WireFault::Short { offset } => ("W2 Short", offset),
+            WireFault::Long { offset } => ("W3 Long", offset),
+            WireFault::BadNode { offset } => ("W4 BadNode", offset),
+            WireFault::NameOrder { offset } => ("W5 NameOrder", offset),
+            WireFault::BadName { offset } => ("W6 BadName", offset),
+            WireFault::BadBody { offset } => ("W7 BadBody", offset),
+            WireFault::NotCanonical { offset } => ("W8 NotCanonical", offset),
+            WireFault::CellOrder { offset } => ("W9 CellOrder", offset),
+            WireFault::ZeroCell { offset } => ("W10 ZeroCell", offset),
+            WireFault::BadTerm { offset } => ("W11 BadTerm", offset),
+            WireFault::TooBig { offset } => ("W12 TooBig", offset),
+            WireFault::OutOfMemory => return f.write_str("W13 OutOfMemory"),
+            WireFault::NoGrant { offset } => ("W14 NoGrant", offset),
+        };
+        write!(f, "{text} offset={offset}")
     }
 }
 
