@@ -115,6 +115,30 @@ module _ {C : Type 0} (f : Counted → List C) (w : NameMarks) (base : ℕ) wher
       next = flat_map-cons (later w base f) e rest ∙ ap (λ ds. ds ++ flat_map (later w base f) rest)
           (passes (nat_lt base (change_of w e)) refl ∙ is)
 
+  -- a cell that tells nothing
+  none_more : (front all : List C) (e : Counted × ℕ) (rest : List (Counted × ℕ)) → later w base f e ≡ [] →
+      front ++ flat_map (later w base f) (e ∷ rest) ≡ all → front ++ flat_map (later w base f) rest ≡ all
+  none_more front all e rest none h =
+      ap (λ ds. front ++ ds)
+      (sym (flat_map-cons (later w base f) e rest ∙ ap (λ ds. ds ++ flat_map (later w base f) rest) none)) ∙ h
+
+  -- since it didn't change, or since it isn't of these
+  pub earlier_more : (front all : List C) (e : Counted × ℕ) (rest : List (Counted × ℕ)) → change_of w e ≤ base →
+      front ++ flat_map (later w base f) (e ∷ rest) ≡ all → front ++ flat_map (later w base f) rest ≡ all
+  earlier_more front all e rest le = none_more front all e rest (passed (nat_lt base (change_of w e)) refl)
+    where
+      passed : (b : Bool) → nat_lt base (change_of w e) ≡ b → cond b (f e.0) [] ≡ []
+      passed true t = absurd (grind (arith, nat_tests))
+      passed false t = refl
+
+  pub other_more : (front all : List C) (e : Counted × ℕ) (rest : List (Counted × ℕ)) → f e.0 ≡ [] →
+      front ++ flat_map (later w base f) (e ∷ rest) ≡ all → front ++ flat_map (later w base f) rest ≡ all
+  other_more front all e rest other = none_more front all e rest (passed (nat_lt base (change_of w e)))
+    where
+      passed : (b : Bool) → cond b (f e.0) [] ≡ []
+      passed true = other
+      passed false = refl
+
   one_ascends : (place : C → List ℕ) (e : Counted × ℕ) → IsAscending (map place (f e.0)) →
       IsAscending (map place (later w base f e))
   one_ascends place e h = by_test (nat_lt base (change_of w e))

@@ -139,6 +139,47 @@ impl NameMarks {
         }
     }
 
+    /// Makes room for the marks of a pass and of the execution that it spends, if any.
+    #[inline(always)]
+    pub(crate) fn make_pass_room(
+        &mut self,
+        hits: Option<Counted>,
+        execs: Option<Counted>,
+    ) -> Result<(), AllocError>
+        ensures latest { self.new.latest ≡ self.old.latest }
+        ensures key { self.new.key ≡ self.old.key }
+        ensures cells { (c : Counted) → cell_of (Some self.new) c ≡ cell_of (Some self.old) c }
+        ensures hits { OnOk result (IsTrue (has_cell self.new hits)) }
+        ensures execs { OnOk result (IsTrue (has_cell self.new execs)) }
+    {
+        self.make_room(hits)?;
+        self.make_room(execs)?;
+        Ok(())
+    }
+
+    /// Marks a pass at a node and the execution that it spends, if any, which have room.
+    #[inline(always)]
+    pub(crate) fn mark_pass(
+        &mut self,
+        node: u8,
+        hits: Option<Counted>,
+        execs: Option<Counted>,
+        version: u64,
+    )
+        requires hits { IsTrue (has_cell self.old hits) }
+        requires execs { IsTrue (has_cell self.old execs) }
+        requires version { version ≢ 0 }
+        ensures latest { self.new.latest ≡ version }
+        ensures key { self.new.key ≡ self.old.key }
+        ensures cells { (c : Counted) → cell_of (Some self.new) c
+            ≡ (if is_of execs c then version
+            else if is_of hits c then version else cell_of (Some self.old) c) }
+    {
+        self.begin_passes(node);
+        self.mark(false, hits, version);
+        self.mark(false, execs, version);
+    }
+
     // Marks what is counted.
     #[inline(always)]
     fn mark_cell(&mut self, counted: Counted, version: u64)

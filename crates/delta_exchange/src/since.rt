@@ -1,7 +1,7 @@
 //! What changed of a replica with versions after one of them, as a message.
 
-ghost use Rattle.std.specs.Prelude.{◌≡◌, ◌++◌, ℕ, map, IfOk, IsSome, OnOk};
-ghost use Rattle.std.specs.List.{AllByRecursion};
+ghost use Rattle.std.specs.Prelude.{◌≡◌, ◌++◌, [], ℕ, map, IfOk, IsSome, OnOk};
+ghost use Rattle.std.specs.List.{AllByRecursion, cons_option};
 ghost use Rattle.std.specs.BTreeMap.{IsOrdered};
 ghost use Rattle.std.specs.Ordering.{nat_cmp};
 ghost use Rattle.std.specs.Cmp.Lexicographic.{slice_cmp};
@@ -12,6 +12,7 @@ ghost use Rattle.message_format.specs.Messages.{entry_value, message_value};
 ghost use Rattle.delta_exchange.specs.Cells.{HitsFit, ExecsFit, ShiftsFit, EntryFits, EntriesFit};
 ghost use Rattle.delta_exchange.specs.Versions.{value_of};
 ghost use Rattle.delta_exchange.specs.Since.{CanBeTold, IsMessageSince, AreCellsOrdered};
+ghost use Rattle.delta_exchange.specs.Since.{hit_of, exec_of, shift_of, grant_of};
 ghost use Rattle.delta_exchange.specs.Since.{hits_since, execs_since, shifts_since, grants_since};
 ghost use Rattle.delta_exchange.specs.Since.{entry_since, entry_under, entries_since, tells_cells};
 
@@ -22,6 +23,17 @@ use message_format::{Message, NameEntry};
 use replica_state::{Counted, PointReader, Replica, Stored};
 use stamp_register::Key;
 use std::alloc::{AllocError, Global};
+
+/// The hits of a node, if what is counted is its hits and they aren't 0.
+fn hit_of<S: Stored>(held: PointReader<S>, counted: Counted) -> Option<(u8, u64)>
+    ensures { cons_option result [] ≡ hit_of (reader_held S.held held.entry) counted }
+{
+    let Counted::Hits { node } = counted else {
+        return None;
+    };
+    let number = held.hits(node);
+    (number != 0).then_some((node, number))
+}
 
 /// The hits of a name that changed after a version, by node.
 fn hits_since<S: Stored>(
@@ -38,15 +50,23 @@ fn hits_since<S: Stored>(
     let mut hits = Vec::new(alloc);
     for (counted, mark) in marks.cells() {
         if marks.change(*counted, *mark) > base
-            && let Counted::Hits { node } = *counted
+            && let Some(hit) = hit_of(held, *counted)
         {
-            let number = held.hits(node);
-            if number != 0 {
-                hits.push((node, number))?;
-            }
+            hits.push(hit)?;
         }
     }
     Ok(hits)
+}
+
+/// The executions of a term by a node, if what is counted is these and they aren't 0.
+fn exec_of<S: Stored>(held: PointReader<S>, counted: Counted) -> Option<(u8, u8, u64)>
+    ensures { cons_option result [] ≡ exec_of (reader_held S.held held.entry) counted }
+{
+    let Counted::Execs { term, node } = counted else {
+        return None;
+    };
+    let number = held.exec(term, node);
+    (number != 0).then_some((term, node, number))
 }
 
 /// The executions of a name under its key that changed after a version, by term and node.
@@ -63,15 +83,26 @@ fn execs_since<S: Stored>(
     let mut execs = Vec::new(alloc);
     for (counted, mark) in marks.cells() {
         if marks.change(*counted, *mark) > base
-            && let Counted::Execs { term, node } = *counted
+            && let Some(exec) = exec_of(held, *counted)
         {
-            let number = held.exec(term, node);
-            if number != 0 {
-                execs.push((term, node, number))?;
-            }
+            execs.push(exec)?;
         }
     }
     Ok(execs)
+}
+
+/// The rights that a node moved to another one, if what is counted is these and they aren't 0.
+fn shift_of<S: Stored>(held: PointReader<S>, counted: Counted) -> Option<(u8, u8, u8, u64)>
+    ensures { cons_option result [] ≡ shift_of (reader_held S.held held.entry) counted }
+{
+    let Counted::Shifts { term, from, to } = counted else {
+        return None;
+    };
+    if to == from {
+        return None;
+    }
+    let number = held.moved(term, from, to);
+    (number != 0).then_some((term, from, to, number))
 }
 
 /// What was moved of the rights to the terms of a name under its key and changed after a version,
@@ -89,16 +120,26 @@ fn shifts_since<S: Stored>(
     let mut shifts = Vec::new(alloc);
     for (counted, mark) in marks.cells() {
         if marks.change(*counted, *mark) > base
-            && let Counted::Shifts { term, from, to } = *counted
-            && to != from
+            && let Some(shift) = shift_of(held, *counted)
         {
-            let number = held.moved(term, from, to);
-            if number != 0 {
-                shifts.push((term, from, to, number))?;
-            }
+            shifts.push(shift)?;
         }
     }
     Ok(shifts)
+}
+
+/// The rights that a node granted itself, if what is counted is these and they aren't 0.
+fn grant_of<S: Stored>(held: PointReader<S>, counted: Counted) -> Option<(u8, u8, u64)>
+    ensures { cons_option result [] ≡ grant_of (reader_held S.held held.entry) counted }
+{
+    let Counted::Shifts { term, from, to } = counted else {
+        return None;
+    };
+    if to != from {
+        return None;
+    }
+    let number = held.granted(term, from);
+    (number != 0).then_some((term, from, number))
 }
 
 /// What was granted of the rights to the terms of a name under its key and changed after a version,
@@ -116,13 +157,9 @@ fn grants_since<S: Stored>(
     let mut grants = Vec::new(alloc);
     for (counted, mark) in marks.cells() {
         if marks.change(*counted, *mark) > base
-            && let Counted::Shifts { term, from, to } = *counted
-            && to == from
+            && let Some(grant) = grant_of(held, *counted)
         {
-            let number = held.granted(term, from);
-            if number != 0 {
-                grants.push((term, from, number))?;
-            }
+            grants.push(grant)?;
         }
     }
     Ok(grants)

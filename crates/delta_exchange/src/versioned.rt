@@ -2,7 +2,7 @@
 #![tactic(auto, unfolding(crate::specs::Versions::value_of))]
 
 ghost use Rattle.std.specs.Prelude.{◌≡◌, ◌≢◌, ◌+◌, ◌<◌, ◌^◌, ℕ, List, Some, false, map, option_map};
-ghost use Rattle.std.specs.Prelude.{IfOk, IsSome, OnOk, OnErr};
+ghost use Rattle.std.specs.Prelude.{None, IfOk, IsSome, IsTrue, OnOk, OnErr};
 ghost use Rattle.stamp_register.specs.Keys.{key_value};
 ghost use Rattle.replica_state.specs.States.{budget_of, with_key, with_pass, with_shifts};
 ghost use Rattle.std.specs.List.{AllByRecursion};
@@ -11,7 +11,7 @@ ghost use Rattle.replica_state.specs.Knowledge.{is_upto, changes};
 ghost use Rattle.operations.specs.declared.counted.Counted.TheVariants.{Execs};
 ghost use Rattle.message_format.specs.Messages.{message_value, operations_in};
 ghost use Rattle.message_format.specs.Spelling.{IsMessage};
-ghost use Rattle.delta_exchange.specs.Marks.{marks_value, AreUpto};
+ghost use Rattle.delta_exchange.specs.Marks.{has_room, marks_value, AreUpto};
 
 use crate::learning::replica_of;
 use crate::marks::Marks;
@@ -100,9 +100,30 @@ impl<R: Replica> Versioned<R> {
     {
         self.marks.make_room(alloc, &name, None)?;
         let marked = name.copied(alloc)?;
+        self.set_marked_key(alloc, name, key, &marked)
+    }
+
+    // Gives a point of this name a key above the one that it has. There is room for its marks.
+    fn set_marked_key(
+        &mut self,
+        alloc: Global,
+        name: Name,
+        key: Key,
+        marked: &Name,
+    ) -> Result<(), AllocError>
+        requires above { is_upto (Some (key_value key))
+            ((value_of R.state self.old).state.key name) ≡ false }
+        requires version { (value_of R.state self.old).version + 1 < 2 ^ 64 }
+        requires same { marked.now ≡ name }
+        requires room { IsTrue (has_room self.old.marks name None) }
+        ensures ok { OnOk result (ChangesTo (value_of R.state self.old)
+            (with_key name (key_value key) (value_of R.state self.old).state)
+            (value_of R.state self.new)) }
+        ensures err { OnErr result (value_of R.state self.new ≡ value_of R.state self.old) }
+    {
         self.replica.set_key(alloc, name, key)?;
         self.version += 1;
-        self.marks.renew(&marked, self.version);
+        self.marks.renew(marked, self.version);
         Ok(())
     }
 
@@ -127,13 +148,10 @@ impl<R: Replica> Versioned<R> {
         let Some(marks) = self.marks.names.get_mut(name) else {
             return self.count_unmarked_pass(alloc, name, node, spent);
         };
-        marks.make_room(hits)?;
-        marks.make_room(execs)?;
+        marks.make_pass_room(hits, execs)?;
         self.replica.count_pass(alloc, name, node, spent)?;
         self.version += 1;
-        marks.begin_passes(node);
-        marks.mark(false, hits, self.version);
-        marks.mark(false, execs, self.version);
+        marks.mark_pass(node, hits, execs, self.version);
         Ok(())
     }
 
@@ -210,8 +228,25 @@ impl<R: Replica> Versioned<R> {
             body: Body::Removed,
         };
         let news = news_of_ops(alloc, &self.replica, ops, &no_key)?;
-        let learned = learned(alloc, &news)?;
-        self.learn(alloc, &news, learned)
+        self.learn_news(alloc, &news)
+    }
+
+    // Learns the news of operations, all at once, as one change. The answer says whether there are
+    // any.
+    fn learn_news(&mut self, alloc: Global, news: &[Told]) -> Result<bool, AllocError>
+        requires news { (told : List Operation) × AllByRecursion IsWellFormed told
+            × (map news_of news.now ≡ news_in (value_of R.state self.old).state told) }
+        requires version { (value_of R.state self.old).version + 1 < 2 ^ 64 }
+        ensures changed { IfOk result (λ changed. (told : List Operation)
+            → map news_of news.now ≡ news_in (value_of R.state self.old).state told
+            → changed ≡ changes (value_of R.state self.old).state told) }
+        ensures ok { OnOk result ((told : List Operation)
+            → map news_of news.now ≡ news_in (value_of R.state self.old).state told
+            → Issues (value_of R.state self.old) told (value_of R.state self.new)) }
+        ensures err { OnErr result (value_of R.state self.new ≡ value_of R.state self.old) }
+    {
+        let received = learned(alloc, news)?;
+        self.learn(alloc, news, received)
     }
 
     /// Learns what a message tells, all at once: its operations, the version of its sender, if this
@@ -263,9 +298,31 @@ impl<R: Replica> Versioned<R> {
         ensures err { OnErr result (value_of R.state self.new ≡ value_of R.state self.old) }
     {
         let news = news_of_message(alloc, &self.replica, message)?;
+        self.learn_message(alloc, message, &news, received)
+    }
+
+    // Learns the news of a message, which another replica brings, and the versions that it tells.
+    fn learn_message(
+        &mut self,
+        alloc: Global,
+        message: &Message,
+        news: &[Told],
+        received: R,
+    ) -> Result<bool, AllocError>
+        requires brings { BringsNews (value_of R.state self.old).state (R.state received)
+            (map operation_of news.now) }
+        requires news { map news_of news.now ≡ news_in
+            (value_of R.state self.old).state (operations_in (message_value message.now)) }
+        requires version { (value_of R.state self.old).version + 1 < 2 ^ 64 }
+        ensures changed { IfOk result (λ changed. changed ≡ changes
+            (value_of R.state self.old).state (operations_in (message_value message.now))) }
+        ensures ok { OnOk result (Receives (value_of R.state self.old)
+            (message_value message.now) (value_of R.state self.new)) }
+        ensures err { OnErr result (value_of R.state self.new ≡ value_of R.state self.old) }
+    {
         self.known.make_room(message.from)?;
         self.acked.make_room(message.from)?;
-        let changed = self.learn(alloc, &news, received)?;
+        let changed = self.learn(alloc, news, received)?;
         self.known
             .raise_known(message.from, message.base, message.upto);
         self.acked.raise_acked(message.from, message.ack);

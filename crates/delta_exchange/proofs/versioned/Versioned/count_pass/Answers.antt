@@ -14,16 +14,16 @@ use Rattle.delta_exchange.proofs.versioned.Versioned.count_pass.Goals as goal
 pub invariant_of-self-in-Break-1 : goal.invariant_of-self-in-Break-1
 invariant_of-self-in-Break-1 g c =
     let same = lent_same c.args.self.now.marks c.get_mut.follows.lender c.args.name.now c.in-Some.marks.now
-    c.make_room.new.self c.get_mut.follows.holds (sym c.in-Some.ensures.value) c.make_room.ensures.latest
-    c.make_room.ensures.key c.make_room.ensures.cells in
+    c.make_pass_room.new.self c.get_mut.follows.holds (sym c.in-Some.ensures.value) c.make_pass_room.ensures.latest
+    c.make_pass_room.ensures.key c.make_pass_room.ensures.cells in
     record { upto = subst (λ (n : MarksValue). AreUpto n c.args.self.now.version) (sym same) c.args.self.now.upto }
 
-pub returns-in_err-make_room-clause-err : goal.returns-in_err-make_room-clause-err
+pub returns-in_err-make_pass_room-clause-err : goal.returns-in_err-make_pass_room-clause-err
 unfolding value_of
-returns-in_err-make_room-clause-err g c =
+returns-in_err-make_pass_room-clause-err g c =
     let same = lent_same c.args.self.now.marks c.get_mut.follows.lender c.args.name.now c.in-Some.marks.now
-    c.make_room.new.self c.get_mut.follows.holds (sym c.in-Some.ensures.value) c.make_room.ensures.latest
-    c.make_room.ensures.key c.make_room.ensures.cells in
+    c.make_pass_room.new.self c.get_mut.follows.holds (sym c.in-Some.ensures.value) c.make_pass_room.ensures.latest
+    c.make_pass_room.ensures.key c.make_pass_room.ensures.cells in
     let self = c.args.self.now in
     always_err c.from_residual.result (λ i. record {
       state = g.R.Replica.state self.replica;
@@ -36,61 +36,24 @@ returns-in_err-make_room-clause-err g c =
 pub invariant_of-self-in-Break-branch-2 : goal.invariant_of-self-in-Break-branch-2
 invariant_of-self-in-Break-branch-2 g c =
     let same = lent_same c.args.self.now.marks c.get_mut.follows.lender c.args.name.now c.in-Some.marks.now
-    c.make_room-2.new.self c.get_mut.follows.holds (sym c.in-Some.ensures.value)
-    (c.make_room-2.ensures.latest ∙ c.make_room.ensures.latest)
-    (c.make_room-2.ensures.key ∙ c.make_room.ensures.key)
-    (λ d. c.make_room-2.ensures.cells d ∙ c.make_room.ensures.cells d) in
-    record { upto = subst (λ (n : MarksValue). AreUpto n c.args.self.now.version) (sym same) c.args.self.now.upto }
-
-pub returns-in_err-make_room-2-clause-err : goal.returns-in_err-make_room-2-clause-err
-unfolding value_of
-returns-in_err-make_room-2-clause-err g c =
-    let same = lent_same c.args.self.now.marks c.get_mut.follows.lender c.args.name.now c.in-Some.marks.now
-    c.make_room-2.new.self c.get_mut.follows.holds (sym c.in-Some.ensures.value)
-    (c.make_room-2.ensures.latest ∙ c.make_room.ensures.latest)
-    (c.make_room-2.ensures.key ∙ c.make_room.ensures.key)
-    (λ d. c.make_room-2.ensures.cells d ∙ c.make_room.ensures.cells d) in
-    let self = c.args.self.now in
-    always_err c.from_residual-in_err-make_room-2.result (λ i. record {
-      state = g.R.Replica.state self.replica;
-      version = self.version;
-      known = version_of self.known;
-      acked =
-          version_of self.acked;
-      last = last_changes (same i);
-    })
-
-pub invariant_of-self-in-Break-branch-3 : goal.invariant_of-self-in-Break-branch-3
-invariant_of-self-in-Break-branch-3 g c =
-    let same = lent_same c.args.self.now.marks c.get_mut.follows.lender c.args.name.now c.in-Some.marks.now
-    c.make_room-2.new.self c.get_mut.follows.holds (sym c.in-Some.ensures.value)
-    (c.make_room-2.ensures.latest ∙ c.make_room.ensures.latest)
-    (c.make_room-2.ensures.key ∙ c.make_room.ensures.key)
-    (λ d. c.make_room-2.ensures.cells d ∙ c.make_room.ensures.cells d) in
+    c.make_pass_room.new.self c.get_mut.follows.holds (sym c.in-Some.ensures.value) c.make_pass_room.ensures.latest
+    c.make_pass_room.ensures.key c.make_pass_room.ensures.cells in
     record { upto = subst (λ (n : MarksValue). AreUpto n c.args.self.now.version) (sym same) c.args.self.now.upto }
 
 pub returns-in_err-count_pass-clause-err : goal.returns-in_err-count_pass-clause-err
 unfolding value_of
 returns-in_err-count_pass-clause-err g c =
     let same = lent_same c.args.self.now.marks c.get_mut.follows.lender c.args.name.now c.in-Some.marks.now
-    c.make_room-2.new.self c.get_mut.follows.holds (sym c.in-Some.ensures.value)
-    (c.make_room-2.ensures.latest ∙ c.make_room.ensures.latest)
-    (c.make_room-2.ensures.key ∙ c.make_room.ensures.key)
-    (λ d. c.make_room-2.ensures.cells d ∙ c.make_room.ensures.cells d) in
+    c.make_pass_room.new.self c.get_mut.follows.holds (sym c.in-Some.ensures.value) c.make_pass_room.ensures.latest
+    c.make_pass_room.ensures.key c.make_pass_room.ensures.cells in
     let self = c.args.self.now in
     always_err c.from_residual-in_err-count_pass.result (λ i. record {
       state = c.in_err-count_pass.ensures.err i;
       version = self.version;
       known = version_of self.known;
-      acked =
-          version_of self.acked;
+      acked = version_of self.acked;
       last = last_changes (same i);
     })
-
-pub mark-requires-clause-room : goal.mark-requires-clause-room
-mark-requires-clause-room g c =
-    let hits : Option Counted = Some (Hits c.args.node) in
-    c.begin_passes.ensures.kept hits (c.in_ok-make_room-2.ensures.kept hits c.in_ok-make_room.ensures.room)
 
 pub invariant_of-self-2 : goal.invariant_of-self-2
 invariant_of-self-2 g c =
@@ -99,13 +62,11 @@ invariant_of-self-2 g c =
     let name = c.args.name.now in
     let hits : Option Counted = Some (Hits c.args.node) in
     let execs : Option Counted = c.executed-execs.result in
-    let marked = lent_marked c.args.self.now.marks c.get_mut.follows.lender name c.in-Some.marks.now c.mark-2.new.self
-    c.get_mut.follows.holds (sym c.in-Some.ensures.value) hits execs version c.mark-2.ensures.latest
-    (c.mark-2.ensures.key ∙ c.mark.ensures.key ∙ c.begin_passes.ensures.key ∙ c.make_room-2.ensures.key ∙
-    c.make_room.ensures.key)
-    (λ d. c.mark-2.ensures.cells d ∙ ap (λ x. cond (is_of execs d) version x)
-    (c.mark.ensures.cells d ∙ ap (λ x. cond (is_of hits d) version x)
-    (c.begin_passes.ensures.cells d ∙ c.make_room-2.ensures.cells d ∙ c.make_room.ensures.cells d))) in
+    let marked = lent_marked c.args.self.now.marks c.get_mut.follows.lender name c.in-Some.marks.now
+    c.mark_pass.new.self c.get_mut.follows.holds (sym c.in-Some.ensures.value) hits execs version
+    c.mark_pass.ensures.latest (c.mark_pass.ensures.key ∙ c.make_pass_room.ensures.key)
+    (λ d. c.mark_pass.ensures.cells d ∙ ap (λ x. cond (is_of execs d) version (cond (is_of hits d) version x))
+    (c.make_pass_room.ensures.cells d)) in
     record {
       upto = subst (λ (n : MarksValue). AreUpto n version) (sym marked)
           (upto_marked (with_mark name false hits version m) name false execs version version (omega arith)
@@ -122,13 +83,11 @@ returns-clause-ok g c =
     let hits : Option Counted = Some (Hits c.args.node) in
     let other : Option Counted = c.executed-execs.result in
     let execs : Option Counted = option_map (λ term. Execs term c.args.node) c.args.spent in
-    let marked = lent_marked c.args.self.now.marks c.get_mut.follows.lender name c.in-Some.marks.now c.mark-2.new.self
-    c.get_mut.follows.holds (sym c.in-Some.ensures.value) hits other version c.mark-2.ensures.latest
-    (c.mark-2.ensures.key ∙ c.mark.ensures.key ∙ c.begin_passes.ensures.key ∙ c.make_room-2.ensures.key ∙
-    c.make_room.ensures.key)
-    (λ d. c.mark-2.ensures.cells d ∙ ap (λ x. cond (is_of other d) version x)
-    (c.mark.ensures.cells d ∙ ap (λ x. cond (is_of hits d) version x)
-    (c.begin_passes.ensures.cells d ∙ c.make_room-2.ensures.cells d ∙ c.make_room.ensures.cells d))) in
+    let marked = lent_marked c.args.self.now.marks c.get_mut.follows.lender name c.in-Some.marks.now
+    c.mark_pass.new.self c.get_mut.follows.holds (sym c.in-Some.ensures.value) hits other version
+    c.mark_pass.ensures.latest (c.mark_pass.ensures.key ∙ c.make_pass_room.ensures.key)
+    (λ d. c.mark_pass.ensures.cells d ∙ ap (λ x. cond (is_of other d) version (cond (is_of hits d) version x))
+    (c.make_pass_room.ensures.cells d)) in
     let both = marked ∙ ap (λ (e : Option Counted). with_mark name false e version
     (with_mark name false hits version m)) c.executed-execs.ensures in
     let v = state c.args.self.now.replica in
