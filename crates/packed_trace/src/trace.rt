@@ -219,14 +219,38 @@ impl Trace {
     {
         if pass.words.len() <= 1 {
             if let Some(row) = self.row_for(alloc, pass.name, pass.setting)? {
-                self.reserve_pass()?;
-                return Ok(Prepared::Pass {
-                    row,
-                    term: pass.term,
-                    word: pass.words.first().copied(),
-                });
+                return self.prepare_by_row(row, pass);
             }
         }
+        self.prepare_entry(alloc, pass)
+    }
+
+    // Makes room for a pass, which has this row and was given one random draw at most. No call changes.
+    #[inline(always)]
+    fn prepare_by_row(&mut self, row: u16, pass: Pass<'_>) -> Result<Prepared, AllocError>
+        requires there { slice_get self.old.rows row ≡ Some (row_of pass) }
+        requires words { length pass.words.now ≤ 1 }
+        ensures room { IfOk result (IsPrepared self.new) }
+        ensures told { IfOk result (λ p. prepared_told self.new.rows p ≡ pass_value pass.entry) }
+        ensures calls { self.new.calls ≡ self.old.calls }
+        ensures rows { self.new.rows ≡ self.old.rows }
+        ensures small { IfOk result IsByRow }
+    {
+        self.reserve_pass()?;
+        Ok(Prepared::Pass {
+            row,
+            term: pass.term,
+            word: pass.words.first().copied(),
+        })
+    }
+
+    // Makes room for a pass as an entry. No call changes.
+    fn prepare_entry(&mut self, alloc: Global, pass: Pass<'_>) -> Result<Prepared, AllocError>
+        ensures room { IfOk result (IsPrepared self.new) }
+        ensures told { IfOk result (λ p. prepared_told self.new.rows p ≡ pass_value pass.entry) }
+        ensures calls { self.new.calls ≡ self.old.calls }
+        ensures rows { self.new.rows ≡ self.old.rows }
+    {
         let entry = Box::new(alloc, pass.to_entry(alloc)?)?;
         self.reserve_entry()?;
         Ok(Prepared::Entry(entry))
@@ -326,11 +350,19 @@ impl Trace {
         ensures { IfOk result (λ trace. trace.calls ≡ map told entries.items) }
     {
         let mut trace = Trace::new(alloc);
-        for entry in entries {
-            trace.reserve_entry()?;
-            trace.push_entry(entry);
-        }
+        trace.add_entries(entries)?;
         Ok(trace)
+    }
+
+    // All these entries more.
+    fn add_entries(&mut self, entries: Vec<Entry>) -> Result<(), AllocError>
+        ensures { OnOk result (self.new.calls ≡ self.old.calls ++ map told entries.items) }
+    {
+        for entry in entries {
+            self.reserve_entry()?;
+            self.push_entry(entry);
+        }
+        Ok(())
     }
 
     /// Each call as an entry of its own. The only error is out of memory.
