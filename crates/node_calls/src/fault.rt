@@ -125,28 +125,29 @@ impl fmt::Display for NodeFault {
     ghost output = { λ e. Some (node_fault_text e) };
 
     fn fmt<W: fmt::Write>(&self, f: &mut fmt::Formatter<W>) -> fmt::Result {
-        match self {
-            NodeFault::TraceFull => f.write_str("N1 TraceFull"),
-            NodeFault::BadName => f.write_str("N2 BadName"),
-            NodeFault::BadActions(fault) => write!(f, "N3 BadActions {fault}"),
-            NodeFault::TooManyPoints => f.write_str("N4 TooManyPoints"),
-            NodeFault::ClockFull => f.write_str("N5 ClockFull"),
-            NodeFault::NotSet => f.write_str("N6 NotSet"),
-            NodeFault::NoSuchTerm => f.write_str("N7 NoSuchTerm"),
-            NodeFault::NotCounted => f.write_str("N8 NotCounted"),
-            NodeFault::BadNode => f.write_str("N9 BadNode"),
-            NodeFault::ZeroAmount => f.write_str("N10 ZeroAmount"),
-            NodeFault::TooFewRights { have } => write!(f, "N11 TooFewRights have={have}"),
-            NodeFault::CellFull => f.write_str("N12 CellFull"),
-            NodeFault::BadWords { need } => write!(f, "N14 BadWords need={need}"),
-            NodeFault::BadMessage(fault) => write!(f, "N16 BadMessage {fault}"),
-            NodeFault::NotForMe => f.write_str("N17 NotForMe"),
-            NodeFault::OwnAhead => f.write_str("N18 OwnAhead"),
-            NodeFault::AckAhead => f.write_str("N19 AckAhead"),
-            NodeFault::Overspent => f.write_str("N20 Overspent"),
-            NodeFault::BadConfig => f.write_str("N21 BadConfig"),
-            NodeFault::OutOfMemory => f.write_str("N22 OutOfMemory"),
-        }
+        let text = match self {
+            NodeFault::TraceFull => "N1 TraceFull",
+            NodeFault::BadName => "N2 BadName",
+            NodeFault::BadActions(fault) => return write!(f, "N3 BadActions {fault}"),
+            NodeFault::TooManyPoints => "N4 TooManyPoints",
+            NodeFault::ClockFull => "N5 ClockFull",
+            NodeFault::NotSet => "N6 NotSet",
+            NodeFault::NoSuchTerm => "N7 NoSuchTerm",
+            NodeFault::NotCounted => "N8 NotCounted",
+            NodeFault::BadNode => "N9 BadNode",
+            NodeFault::ZeroAmount => "N10 ZeroAmount",
+            NodeFault::TooFewRights { have } => return write!(f, "N11 TooFewRights have={have}"),
+            NodeFault::CellFull => "N12 CellFull",
+            NodeFault::BadWords { need } => return write!(f, "N14 BadWords need={need}"),
+            NodeFault::BadMessage(fault) => return write!(f, "N16 BadMessage {fault}"),
+            NodeFault::NotForMe => "N17 NotForMe",
+            NodeFault::OwnAhead => "N18 OwnAhead",
+            NodeFault::AckAhead => "N19 AckAhead",
+            NodeFault::Overspent => "N20 Overspent",
+            NodeFault::BadConfig => "N21 BadConfig",
+            NodeFault::OutOfMemory => "N22 OutOfMemory",
+        };
+        f.write_str(text)
     }
 }
 
