@@ -1,9 +1,10 @@
 //! The accepted calls of a node.
 
 ghost use Rattle.std.specs.Prelude.{Some, ◌-◌, ◌≢◌, ◌↔◌, IsTrue};
-ghost use Rattle.packed_trace.specs.Heads.{IsLast};
+ghost use Rattle.packed_trace.specs.Heads.{IsLast, head_of};
 ghost use Rattle.std.specs.Prelude.{◌≡◌, ◌+◌, ◌<◌, ◌^◌, [], ◌∷◌, ◌++◌, length, map};
-ghost use Rattle.std.specs.Prelude.{◌≤◌, option_map, slice_get, is_none};
+ghost use Rattle.std.specs.Prelude.{◌≤◌, option_map, slice_get, is_none, vec_len, vec_capacity};
+ghost use Rattle.std.specs.Prelude.{ℕ, List, bytes_eq, if◌then◌else◌};
 ghost use Rattle.std.specs.Prelude.{IfOk, IfSome, IsNone, IsOk, OnOk, OnErr};
 ghost use Rattle.node_calls.specs.Told.{told};
 ghost use Rattle.packed_trace.specs.Packed.{IsByRow, IsPrepared, pass_by, pass_value, prepared_told, row_of, row_told};
@@ -75,6 +76,25 @@ fn pass_of(rows: &[Row], row: u16, term: Option<u8>, word: Option<u32>) -> Seen<
         term,
         word,
     }
+}
+
+// Makes room for a row of a name at this place, as the last one of its point. No row changes.
+fn make_head(
+    alloc: Global,
+    rows: &mut Vec<Row>,
+    heads: &mut Heads,
+    name: &Name,
+    at: u16,
+) -> Result<(), AllocError>
+    ensures items { rows.new.items ≡ rows.old.items }
+    ensures room { OnOk result (vec_len rows.new < vec_capacity rows.new) }
+    ensures ok { OnOk result ((other : List ℕ) → head_of heads.new other
+        ≡ (if bytes_eq name.now other then Some at else head_of heads.old other)) }
+    ensures err { OnErr result
+        ((other : List ℕ) → head_of heads.new other ≡ head_of heads.old other) }
+{
+    rows.reserve(1)?;
+    heads.put(name.copied(alloc)?, at)
 }
 
 impl Trace {
@@ -285,8 +305,7 @@ impl Trace {
         if at >= MAX_ROWS {
             return Ok(None);
         }
-        self.rows.reserve(1)?;
-        self.heads.put(row.name.copied(alloc)?, at as u16)?;
+        make_head(alloc, &mut self.rows, &mut self.heads, &row.name, at as u16)?;
         self.rows.push_reserved(row);
         Ok(Some(at as u16))
     }

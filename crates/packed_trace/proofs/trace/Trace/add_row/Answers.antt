@@ -13,28 +13,28 @@ returns-clause-calls c =
     let entries = c.self.inside.entries.items in
     let slots = c.self.inside.slots.items in
     ap (λ (rs : List Row). map (told_by (map row_told rs) (map told entries)) slots)
-    (c.push_reserved.ensures.items ∙ ap (λ (rs : List Row). rs ++ c.args.row ∷ []) c.in_ok-reserve.ensures.items) ∙
+    (c.push_reserved.ensures.items ∙ ap (λ (rs : List Row). rs ++ c.args.row ∷ []) c.in_ok-make_head.ensures.items) ∙
     rows_stay rows entries c.args.row slots c.self.invariant.0 ∙
     ap (λ (p : Packed). p.calls) c.self.view_is
 
 pub invariant_of-self-2 : goal.invariant_of-self-2
 invariant_of-self-2 c =
     let rows = c.self.inside.rows.items in
-    let grown = c.push_reserved.ensures.items ∙ ap (λ (rs : List Row). rs ++ c.args.row ∷ []) c.in_ok-reserve.ensures.items in
+    let grown = c.push_reserved.ensures.items ∙ ap (λ (rs : List Row). rs ++ c.args.row ∷ []) c.in_ok-make_head.ensures.items in
     let at : c.len-at.result ≡ length rows = search rules in
     let more = length-append rows (c.args.row ∷ []) in
     let longer : length rows ≤ length (rows ++ c.args.row ∷ []) = omega (arith, more) in
-    let named = rw c.in_ok-copied.ensures at c.in_ok-put.ensures.ok in (
+    let named = c.in_ok-make_head.ensures.ok in (
       rw grown (kept_more (length rows) (length (rows ++ c.args.row ∷ [])) (length c.self.inside.entries.items)
           c.self.inside.slots.items longer c.self.invariant.0),
-      rw grown (heads_more c.self.inside.heads c.put.new.self rows c.args.row c.len-at.result at c.self.invariant.1 named),
+      rw grown (heads_more c.self.inside.heads c.make_head.new.heads rows c.args.row c.len-at.result at c.self.invariant.1 named),
     )
 
 pub returns-clause-ok : goal.returns-clause-ok
 returns-clause-ok c =
     let rows = c.self.inside.rows.items in
     let same = ap (λ (p : Packed). p.rows) c.self.view_is in
-    let grown = c.push_reserved.ensures.items ∙ ap (λ (rs : List Row). rs ++ c.args.row ∷ []) c.in_ok-reserve.ensures.items in
+    let grown = c.push_reserved.ensures.items ∙ ap (λ (rs : List Row). rs ++ c.args.row ∷ []) c.in_ok-make_head.ensures.items in
     let at : c.len-at.result ≡ length rows = search rules in (
       at ∙ sym (length-map rows row_told) ∙ ap length same,
       ap (map row_told) grown ∙ map-append row_told rows (c.args.row ∷ []) ∙
