@@ -1,6 +1,6 @@
 //! What changed of a replica with versions after one of them, as a message.
 
-ghost use Rattle.std.specs.Prelude.{◌≡◌, ◌++◌, [], ℕ, map, IfOk, IsSome, OnOk};
+ghost use Rattle.std.specs.Prelude.{◌≡◌, ◌++◌, ◌||◌, nat_lt, [], ℕ, map, IfOk, IsSome, OnOk};
 ghost use Rattle.std.specs.List.{AllByRecursion, cons_option};
 ghost use Rattle.std.specs.BTreeMap.{IsOrdered};
 ghost use Rattle.std.specs.Ordering.{nat_cmp};
@@ -200,6 +200,13 @@ fn tells_cells(entry: &NameEntry) -> bool
         || !entry.grants.is_empty()
 }
 
+/// Whether an entry is told: its key changed after a version, or it tells a cell.
+fn is_told(entry: &NameEntry, base: u64, marks: &NameMarks) -> bool
+    ensures { result ≡ (nat_lt base marks.now.key || tells_cells (entry_value entry.now)) }
+{
+    marks.key() > base || tells_cells(entry)
+}
+
 /// Adds what changed after a version of a name with these marks, if it has a key.
 fn push_entry_since<S: Stored>(
     alloc: Global,
@@ -222,7 +229,7 @@ fn push_entry_since<S: Stored>(
         return Ok(());
     };
     let entry = entry_since(alloc, held, name, key, base, marks)?;
-    if marks.key() > base || tells_cells(&entry) {
+    if is_told(&entry, base, marks) {
         entries.push(entry)?;
     }
     Ok(())

@@ -171,12 +171,10 @@ impl<R: Replica> Versioned<R> {
     {
         let hits = Some(Counted::Hits { node });
         let execs = executed(spent, node);
-        self.marks.make_room(alloc, name, hits)?;
-        self.marks.make_room(alloc, name, execs)?;
+        self.marks.make_pass_room(alloc, name, hits, execs)?;
         self.replica.count_pass(alloc, name, node, spent)?;
         self.version += 1;
-        self.marks.mark(name, false, hits, self.version);
-        self.marks.mark(name, false, execs, self.version);
+        self.marks.mark_pass(name, hits, execs, self.version);
         Ok(())
     }
 
