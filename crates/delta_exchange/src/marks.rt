@@ -1,7 +1,7 @@
 //! When each key and each cell last changed, by versions.
 #![tactic(auto, unfolding(crate::specs::Marks::marks_value, crate::specs::Marks::has_room))]
 
-ghost use Rattle.std.specs.Prelude.{◌≡◌, ◌≢◌, IsTrue, false, ℕ, List, [], Option, Some, None, if◌then◌else◌, OnOk};
+ghost use Rattle.std.specs.Prelude.{◌≡◌, ◌≢◌, IsTrue, ℕ, List, [], Option, Some, None, if◌then◌else◌, OnOk};
 ghost use Rattle.std.specs.BTreeMap.{IsOrdered};
 ghost use Rattle.std.specs.Ordering.{nat_cmp};
 ghost use Rattle.std.specs.Cmp.Lexicographic.{slice_cmp};
@@ -277,42 +277,6 @@ impl Marks {
         if let Some(marks) = self.names.get_mut(name) {
             marks.mark(new_key, counted, version);
         }
-    }
-
-    /// Makes room for the marks of a pass of a name and of the execution that it spends, if any. No
-    /// mark changes.
-    pub(crate) fn make_pass_room(
-        &mut self,
-        alloc: Global,
-        name: &Name,
-        hits: Option<Counted>,
-        execs: Option<Counted>,
-    ) -> Result<(), AllocError>
-        ensures same { marks_value self.new ≡ marks_value self.old }
-        ensures hits { OnOk result (IsTrue (has_room self.new name.now hits)) }
-        ensures execs { OnOk result (IsTrue (has_room self.new name.now execs)) }
-    {
-        self.make_room(alloc, name, hits)?;
-        self.make_room(alloc, name, execs)?;
-        Ok(())
-    }
-
-    /// Marks a name with a version: a pass and the execution that it spends, if any.
-    pub(crate) fn mark_pass(
-        &mut self,
-        name: &Name,
-        hits: Option<Counted>,
-        execs: Option<Counted>,
-        version: u64,
-    )
-        requires hits { IsTrue (has_room self.old name.now hits) }
-        requires execs { IsTrue (has_room self.old name.now execs) }
-        requires version { version ≢ 0 }
-        ensures { marks_value self.new ≡ with_mark name.now false execs version
-            (with_mark name.now false hits version (marks_value self.old)) }
-    {
-        self.mark(name, false, hits, version);
-        self.mark(name, false, execs, version);
     }
 
     /// Marks a name with a version for a new key, under which nothing is counted yet. Hits go on.

@@ -2,7 +2,7 @@
 #![tactic(auto, unfolding(crate::specs::Versions::value_of))]
 
 ghost use Rattle.std.specs.Prelude.{◌≡◌, ◌≢◌, ◌+◌, ◌<◌, ◌^◌, ℕ, List, Some, false, map, option_map};
-ghost use Rattle.std.specs.Prelude.{None, IfOk, IsSome, IsTrue, OnOk, OnErr};
+ghost use Rattle.std.specs.Prelude.{IfOk, IsSome, OnOk, OnErr};
 ghost use Rattle.stamp_register.specs.Keys.{key_value};
 ghost use Rattle.replica_state.specs.States.{budget_of, with_key, with_pass, with_shifts};
 ghost use Rattle.std.specs.List.{AllByRecursion};
@@ -11,7 +11,7 @@ ghost use Rattle.replica_state.specs.Knowledge.{is_upto, changes};
 ghost use Rattle.operations.specs.declared.counted.Counted.TheVariants.{Execs};
 ghost use Rattle.message_format.specs.Messages.{message_value, operations_in};
 ghost use Rattle.message_format.specs.Spelling.{IsMessage};
-ghost use Rattle.delta_exchange.specs.Marks.{has_room, marks_value, AreUpto};
+ghost use Rattle.delta_exchange.specs.Marks.{marks_value, AreUpto};
 
 use crate::learning::replica_of;
 use crate::marks::Marks;
@@ -100,30 +100,9 @@ impl<R: Replica> Versioned<R> {
     {
         self.marks.make_room(alloc, &name, None)?;
         let marked = name.copied(alloc)?;
-        self.set_marked_key(alloc, name, key, &marked)
-    }
-
-    // Gives a point of this name a key above the one that it has. There is room for its marks.
-    fn set_marked_key(
-        &mut self,
-        alloc: Global,
-        name: Name,
-        key: Key,
-        marked: &Name,
-    ) -> Result<(), AllocError>
-        requires above { is_upto (Some (key_value key))
-            ((value_of R.state self.old).state.key name) ≡ false }
-        requires version { (value_of R.state self.old).version + 1 < 2 ^ 64 }
-        requires same { marked.now ≡ name }
-        requires room { IsTrue (has_room self.old.marks name None) }
-        ensures ok { OnOk result (ChangesTo (value_of R.state self.old)
-            (with_key name (key_value key) (value_of R.state self.old).state)
-            (value_of R.state self.new)) }
-        ensures err { OnErr result (value_of R.state self.new ≡ value_of R.state self.old) }
-    {
         self.replica.set_key(alloc, name, key)?;
         self.version += 1;
-        self.marks.renew(marked, self.version);
+        self.marks.renew(&marked, self.version);
         Ok(())
     }
 
@@ -171,10 +150,12 @@ impl<R: Replica> Versioned<R> {
     {
         let hits = Some(Counted::Hits { node });
         let execs = executed(spent, node);
-        self.marks.make_pass_room(alloc, name, hits, execs)?;
+        self.marks.make_room(alloc, name, hits)?;
+        self.marks.make_room(alloc, name, execs)?;
         self.replica.count_pass(alloc, name, node, spent)?;
         self.version += 1;
-        self.marks.mark_pass(name, hits, execs, self.version);
+        self.marks.mark(name, false, hits, self.version);
+        self.marks.mark(name, false, execs, self.version);
         Ok(())
     }
 

@@ -13,12 +13,15 @@ pub invariant_of-self-2 : goal.invariant_of-self-2
 invariant_of-self-2 g c =
     let version = c.args.self.now.version + 1 in
     let m = marks_value c.args.self.now.marks in
+    let rooms : marks_value c.make_room-2.new.self ≡ m = c.in_ok-make_room-2.ensures.same ∙
+    c.in_ok-make_room.ensures.same in
     let name = c.args.name.now in
     let hits : Option Counted = Some (Hits c.args.node) in
-    let other : marks_value c.mark_pass.new.self ≡ with_mark name false c.executed-execs.result version
-    (with_mark name false hits version m) = c.mark_pass.ensures ∙
-    ap (λ n. with_mark name false c.executed-execs.result version (with_mark name false hits version n))
-    c.in_ok-make_pass_room.ensures.same in
+    let one : marks_value c.mark.new.self ≡ with_mark name false hits version m = c.mark.ensures.marks ∙
+    ap (with_mark name false hits version) rooms in
+    let other : marks_value c.mark-2.new.self ≡ with_mark name false c.executed-execs.result version
+    (with_mark name false hits version m) = c.mark-2.ensures.marks ∙
+    ap (with_mark name false c.executed-execs.result version) one in
     record {
       upto = subst (λ (n : MarksValue). AreUpto n version) (sym other)
           (upto_marked (with_mark name false hits version m) name false c.executed-execs.result version version
@@ -32,13 +35,16 @@ returns-clause-ok g c =
     let state = g.R.Replica.state in
     let version = c.args.self.now.version + 1 in
     let m = marks_value c.args.self.now.marks in
+    let rooms : marks_value c.make_room-2.new.self ≡ m = c.in_ok-make_room-2.ensures.same ∙
+    c.in_ok-make_room.ensures.same in
     let name = c.args.name.now in
     let hits : Option Counted = Some (Hits c.args.node) in
     let execs : Option Counted = option_map (λ term. Execs term c.args.node) c.args.spent in
-    let other : marks_value c.mark_pass.new.self ≡ with_mark name false execs version
-    (with_mark name false hits version m) = c.mark_pass.ensures ∙
-    ap (λ n. with_mark name false c.executed-execs.result version (with_mark name false hits version n))
-    c.in_ok-make_pass_room.ensures.same ∙
+    let one : marks_value c.mark.new.self ≡ with_mark name false hits version m = c.mark.ensures.marks ∙
+    ap (with_mark name false hits version) rooms in
+    let other : marks_value c.mark-2.new.self ≡ with_mark name false execs version
+    (with_mark name false hits version m) = c.mark-2.ensures.marks ∙
+    ap (with_mark name false c.executed-execs.result version) one ∙
     ap (λ (e : Option Counted). with_mark name false e version (with_mark name false hits version m))
     c.executed-execs.ensures in
     let v = state c.args.self.now.replica in

@@ -1,4 +1,4 @@
-use Rattle.std.proofs.Common.{◌+◌, ◌≡◌, ap, sym, refl, ◌∙◌, subst, arith}
+use Rattle.std.proofs.Common.{◌+◌, ◌≡◌, sym, refl, ◌∙◌, subst, arith}
 use Rattle.stamp_register.specs.Keys.{key_value}
 use Rattle.replica_state.specs.States.{State, with_key}
 use Rattle.delta_exchange.specs.Changes.{ChangesAt}
@@ -6,14 +6,14 @@ use Rattle.delta_exchange.specs.Marks.{MarksValue, marks_value, last_changes, wi
 use Rattle.delta_exchange.specs.Versions.{value_of}
 use Rattle.delta_exchange.proofs.ChangeLemmas.{upto_new_key, changes_new_key}
 use Rattle.delta_exchange.proofs.InPlace.{key_tells}
-use Rattle.delta_exchange.proofs.versioned.Versioned.set_marked_key.Goals as goal
+use Rattle.delta_exchange.proofs.versioned.Versioned.set_key.Goals as goal
 
 pub invariant_of-self-2 : goal.invariant_of-self-2
 invariant_of-self-2 g c =
     let version = c.args.self.now.version + 1 in
     let m = marks_value c.args.self.now.marks in
     let one : marks_value c.renew.new.self ≡ with_new_key c.args.name version m = c.renew.ensures ∙
-    ap (λ n. with_new_key n version m) c.requires.same in
+    (λ i. with_new_key (c.in_ok-marked.ensures i) version (c.in_ok-make_room.ensures.same i)) in
     record {
       upto = subst (λ (n : MarksValue). AreUpto n version) (sym one)
           (upto_new_key m c.args.name c.args.self.now.version version (omega arith) c.args.self.now.upto);
@@ -28,7 +28,7 @@ returns-clause-ok g c =
     let name = c.args.name in
     let key = key_value c.args.key in
     let one : marks_value c.renew.new.self ≡ with_new_key name version m = c.renew.ensures ∙
-    ap (λ n. with_new_key n version m) c.requires.same in
+    (λ i. with_new_key (c.in_ok-marked.ensures i) version (c.in_ok-make_room.ensures.same i)) in
     let v = state c.args.self.now.replica in
     let w = with_key name key v in
     let changed = changes_new_key m name c.args.self.now.version version (omega arith) c.args.self.now.upto v w
