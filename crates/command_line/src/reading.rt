@@ -305,6 +305,39 @@ fn asked<'a, 'm>(matches: &'m ArgMatches<'a>) -> Option<(Subcommand, &'m ArgMatc
     Some((Subcommand::named(name)?, matches))
 }
 
+fn sim_options(matches: &ArgMatches<'_>) -> SimOptions {
+    SimOptions {
+        echo: matches.get_flag("echo"),
+        check: matches.get_flag("check"),
+        quiet: matches.get_flag("quiet"),
+        json: matches.get_flag("json"),
+    }
+}
+
+fn thread_options<'a>(matches: &ArgMatches<'a>) -> ThreadOptions<'a> {
+    ThreadOptions {
+        record: matches.get_str("record"),
+        record_parts: matches.get_str("record-parts"),
+        force: matches.get_flag("force"),
+        check: matches.get_flag("check"),
+        quiet: matches.get_flag("quiet"),
+        json: matches.get_flag("json"),
+    }
+}
+
+// The files of a drill.
+fn files<'a>(alloc: Global, matches: &ArgMatches<'a>) -> Result<Vec<&'a str>, AllocError> {
+    Vec::from_slice(alloc, matches.get_strs("file").unwrap_or(&[]))
+}
+
+// A node to serve, and where its part is kept.
+fn served<'a>(alloc: Global, matches: &ArgMatches<'a>) -> Result<Invocation<'a>, Error>
+    ensures { IfOk result IsGuardedInvocation }
+{
+    let part = part_options(alloc, matches)?;
+    Ok(Invocation::Serve(serve_options(alloc, matches)?, part))
+}
+
 fn read_matches<'a>(alloc: Global, matches: &ArgMatches<'a>) -> Result<Invocation<'a>, Error>
     ensures { IfOk result IsGuardedInvocation }
 {
@@ -312,44 +345,24 @@ fn read_matches<'a>(alloc: Global, matches: &ArgMatches<'a>) -> Result<Invocatio
     let Some((subcommand, matches)) = asked(matches) else {
         return Ok(Invocation::Parse(""));
     };
-    Ok(match subcommand {
-        Subcommand::Parse => Invocation::Parse(matches.get_str("text").unwrap_or("")),
-        Subcommand::Sim => Invocation::Sim(SimOptions {
-            echo: matches.get_flag("echo"),
-            check: matches.get_flag("check"),
-            quiet: matches.get_flag("quiet"),
+    match subcommand {
+        Subcommand::Parse => Ok(Invocation::Parse(matches.get_str("text").unwrap_or(""))),
+        Subcommand::Sim => Ok(Invocation::Sim(sim_options(matches))),
+        Subcommand::Threads => Ok(Invocation::Threads(thread_options(matches))),
+        Subcommand::Audit => Ok(Invocation::Audit(AuditOptions {
+            files: files(alloc, matches)?,
             json: matches.get_flag("json"),
-        }),
-        Subcommand::Threads => Invocation::Threads(ThreadOptions {
-            record: matches.get_str("record"),
-            record_parts: matches.get_str("record-parts"),
-            force: matches.get_flag("force"),
-            check: matches.get_flag("check"),
-            quiet: matches.get_flag("quiet"),
-            json: matches.get_flag("json"),
-        }),
-        Subcommand::Audit => {
-            let files = matches.get_strs("file").unwrap_or(&[]);
-            Invocation::Audit(AuditOptions {
-                files: Vec::from_slice(alloc, files)?,
-                json: matches.get_flag("json"),
-            })
-        }
-        Subcommand::Picture => {
-            let files = matches.get_strs("file").unwrap_or(&[]);
-            Invocation::Picture(PictureOptions {
-                files: Vec::from_slice(alloc, files)?,
-                text: matches.get_flag("text"),
-            })
-        }
-        Subcommand::Serve => {
-            let part = part_options(alloc, matches)?;
-            Invocation::Serve(serve_options(alloc, matches)?, part)
-        }
+        })),
+        Subcommand::Picture => Ok(Invocation::Picture(PictureOptions {
+            files: files(alloc, matches)?,
+            text: matches.get_flag("text"),
+        })),
+        Subcommand::Serve => served(alloc, matches),
         Subcommand::Explain => {
-            Invocation::Explain(text_of(alloc, matches.get_strs("text").unwrap_or(&[]))?)
+            let text = text_of(alloc, matches.get_strs("text").unwrap_or(&[]))?;
+            Ok(Invocation::Explain(text))
         }
-    })
+    }
 }
 
 /// What a command line asks for, whose first word is the program's name. A node that is to be served

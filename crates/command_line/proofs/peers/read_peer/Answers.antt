@@ -32,3 +32,17 @@ returns-else-node-nodes c =
         place = place;
       },
     )))
+
+pub returns-in_err-node : goal.returns-in_err-node
+returns-in_err-node c = search rules
+
+pub returns-in_err-node-2 : goal.returns-in_err-node-2
+returns-in_err-node-2 c = search rules
+
+pub returns-then-node-nodes : goal.returns-then-node-nodes
+returns-then-node-nodes c = record {
+  colon = search rules;
+  node = search rules;
+  below = c.if-node-nodes.true;
+  place = search rules;
+}
