@@ -13,6 +13,9 @@ Taken = List (List ℕ × List ℕ)
 abbrev pub taken_by : Params → Taken
 taken_by params = walk params.pattern.now params.text.now params.path.now params.names.now 0 0
 
+abbrev pub point_of : Taken → Option TargetValue
+point_of taken = option_map point (named (codes "name") taken)
+
 abbrev pub shift_of : Taken → Option TargetValue
 shift_of taken =
     option_and_then (λ (name : List ℕ).
@@ -31,7 +34,7 @@ grant_of taken =
 
 abbrev pub with_parts : RouteId → Taken → Option TargetValue
 with_parts routes.Points taken = Some points
-with_parts routes.Point taken = option_map point (named (codes "name") taken)
+with_parts routes.Point taken = point_of taken
 with_parts routes.Load taken = Some load
 with_parts routes.Shift taken = shift_of taken
 with_parts routes.Grant taken = grant_of taken

@@ -4,7 +4,7 @@ ghost use Rattle.std.specs.Prelude.{◌≡◌, [], IfOk, OnOk, option_map};
 ghost use Rattle.matchit.specs.Params.{AllText};
 ghost use Rattle.matchit.specs.Route.{parse_route};
 ghost use Rattle.http_paths.specs.Rows.{route_rows, with_route, IsFree};
-ghost use Rattle.http_paths.specs.Parts.{taken_by, with_parts};
+ghost use Rattle.http_paths.specs.Parts.{grant_of, point_of, shift_of, taken_by, with_parts};
 ghost use Rattle.http_paths.specs.Paths.{target_of};
 ghost use Rattle.http_paths.specs.Targets.{target_value};
 
@@ -43,27 +43,56 @@ fn with_parts<'p>(route: RouteId, params: &Params<'_, 'p>) -> Option<Target<'p>>
     ensures { AllText (taken_by params.now)
         → option_map target_value result ≡ with_parts route (taken_by params.now) }
 {
-    Some(match route {
-        RouteId::Points => Target::Points,
-        RouteId::Point => Target::Point {
-            name: params.get("name")?,
-        },
-        RouteId::Load => Target::Load,
-        RouteId::Shift => Target::Shift {
-            name: params.get("name")?,
-            term: params.get("term")?,
-            to: params.get("to")?,
-            amount: params.get("amount")?,
-        },
-        RouteId::Grant => Target::Grant {
-            name: params.get("name")?,
-            term: params.get("term")?,
-            amount: params.get("amount")?,
-        },
-        RouteId::Gossip => Target::Gossip,
-        RouteId::Report => Target::Report,
-        RouteId::Status => Target::Status,
+    match route {
+        RouteId::Points => Some(Target::Points),
+        RouteId::Point => point_of(params),
+        RouteId::Load => Some(Target::Load),
+        RouteId::Shift => shift_of(params),
+        RouteId::Grant => grant_of(params),
+        RouteId::Gossip => Some(Target::Gossip),
+        RouteId::Report => Some(Target::Report),
+        RouteId::Status => Some(Target::Status),
+    }
+}
+
+fn point_of<'p>(params: &Params<'_, 'p>) -> Option<Target<'p>>
+    ensures { AllText (taken_by params.now)
+        → option_map target_value result ≡ point_of (taken_by params.now) }
+{
+    let name = params.get("name")?;
+    Some(Target::Point { name })
+}
+
+fn shift_of<'p>(params: &Params<'_, 'p>) -> Option<Target<'p>>
+    ensures { AllText (taken_by params.now)
+        → option_map target_value result ≡ shift_of (taken_by params.now) }
+{
+    let parts = (
+        params.get("name"),
+        params.get("term"),
+        params.get("to"),
+        params.get("amount"),
+    );
+    let (Some(name), Some(term), Some(to), Some(amount)) = parts else {
+        return None;
+    };
+    Some(Target::Shift {
+        name,
+        term,
+        to,
+        amount,
     })
+}
+
+fn grant_of<'p>(params: &Params<'_, 'p>) -> Option<Target<'p>>
+    ensures { AllText (taken_by params.now)
+        → option_map target_value result ≡ grant_of (taken_by params.now) }
+{
+    let parts = (params.get("name"), params.get("term"), params.get("amount"));
+    let (Some(name), Some(term), Some(amount)) = parts else {
+        return None;
+    };
+    Some(Target::Grant { name, term, amount })
 }
 
 // Adds a route that can be read and that stands in the way of none. The only error is out of
