@@ -1,7 +1,10 @@
 //! One request and its reply.
 
-ghost use Rattle.std.specs.Prelude.{◌≡◌, ◌↔◌, ◌⊎◌, ◌<◌, ◌+◌, ◌++◌, length, vec_capacity};
-ghost use Rattle.std.specs.Prelude.{[], option_map, IfOk, IfErr, IfSome, IsOk, IsTrue};
+ghost use Rattle.std.specs.Prelude.{◌≡◌, ◌↔◌, ◌⊎◌, ◌<◌, ◌+◌, ◌++◌, ◌==◌, ℕ, List, length};
+ghost use Rattle.std.specs.Prelude.{[], true, option_map, vec_capacity, if◌then◌else◌};
+ghost use Rattle.std.specs.Prelude.{IfOk, IfErr, IfSome, IsOk, IsTrue};
+ghost use Rattle.message_format.specs.Spelling.{max_message};
+ghost use Rattle.http.specs.Response.{body_of, head_of};
 ghost use Rattle.std.specs.Arc.{arc_value};
 ghost use Rattle.futures.specs.Poll.{IfReady, OnPending};
 ghost use Rattle.futures.specs.Task.{IsArmed, Keeps};
@@ -14,7 +17,7 @@ ghost use Rattle.http.specs.StatusCode.{IsStatusCode};
 ghost use Rattle.http_replies.specs.Replies.{http_value};
 ghost use Rattle.http_service.specs.Exchanges.{asking_of, pieces_of, ComesTo, EndsSo, Gives, GoesOn};
 ghost use Rattle.http_service.specs.Exchanges.{IsExchangeOf, IsResponseTo, Responds, TakesIn};
-ghost use Rattle.http_service.specs.Exchanges.{IsAnswered, IsUnchanged, IsWhole, TellsTooLong};
+ghost use Rattle.http_service.specs.Exchanges.{IsAnswered, IsAnswerTo, IsUnchanged, IsWhole, TellsTooLong};
 ghost use Rattle.http_service.specs.Exchanges.{labels_by};
 ghost use Rattle.http_service.specs.Labels.{label_fields, with_tag};
 
@@ -144,16 +147,35 @@ impl<I: Drop, H: Handler, R: Wait + Clock + Copy> Exchange<I, H, R> {
         ensures asking { asking_of self.new ≡ asking_of self.old }
     {
         let body = mem::replace(&mut self.read, Vec::new(self.alloc));
+        match reading {
+            Reading::Whole => Ok(self.reply_to(body)),
+            Reading::TooLong => Ok(self.reply_too_long()),
+            Reading::NoMemory => Ok(HttpReply::no_memory(self.alloc)),
+            Reading::Broken(error) => Err(error),
+        }
+    }
+
+    // The reply to a body that came whole.
+    fn reply_to(&self, body: Vec<u8>) -> HttpReply
+        ensures { IsAnswerTo H.answers (asking_of self.now) body.items (http_value result) }
+    {
         let (method, path) = (self.method.as_str(), self.uri.path());
-        match (&self.handler, reading) {
-            (Some(handler), Reading::Whole) => {
-                Ok(handler.reply(&self.rt, self.alloc, method, path, body))
+        match &self.handler {
+            Some(handler) => handler.reply(&self.rt, self.alloc, method, path, body),
+            None => HttpReply::no_memory(self.alloc),
+        }
+    }
+
+    // The reply to a body that is longer than the longest.
+    fn reply_too_long(&self) -> HttpReply
+        ensures { (longer : List ℕ) → max_message < length longer
+            → IsAnswerTo H.answers (asking_of self.now) longer (http_value result) }
+    {
+        match &self.handler {
+            Some(handler) => {
+                handler.reply_too_long(self.alloc, self.method.as_str(), self.uri.path())
             }
-            (Some(handler), Reading::TooLong) => Ok(handler.reply_too_long(
-                self.alloc, method, path,
-            )),
-            (_, Reading::Broken(error)) => Err(error),
-            _ => Ok(HttpReply::no_memory(self.alloc)),
+            None => HttpReply::no_memory(self.alloc),
         }
     }
 
@@ -196,13 +218,8 @@ impl<I: Drop, H: Handler, R: Wait + Clock + Copy> Exchange<I, H, R> {
         if self.handler.is_none() {
             return Poll::Ready(Reading::NoMemory);
         }
-        if self.permit.is_none()
-            && let Some(permits) = &mut self.permits
-        {
-            match ready!(permits.poll_next(cx)) {
-                Some(permit) => self.permit = Some(permit),
-                None => return Poll::Ready(Reading::NoMemory),
-            }
+        if !ready!(poll_permit(&mut self.permits, &mut self.permit, cx)) {
+            return Poll::Ready(Reading::NoMemory);
         }
         poll_body(&mut self.body, &mut self.read, cx)
     }
@@ -244,6 +261,26 @@ fn tells_too_long<I: Drop>(body: &Incoming<I>) -> bool
     match body.size_hint().exact() {
         Some(told) => told > MAX_MESSAGE as u64,
         None => false,
+    }
+}
+
+// Waits for a permit in this place, where one is needed. `false` where there is no memory for it.
+fn poll_permit(
+    permits: &mut Option<Permits>,
+    place: &mut Option<OwnedSemaphorePermit>,
+    cx: &mut Context<'_>,
+) -> Poll<bool>
+    requires { IfSome permits.old (λ permits. IfSome permits.waiting CanAcquire) }
+    ensures goes { IfReady result (λ is_there. is_there ≡ true
+        → IfSome permits.new (λ permits. IfSome permits.waiting CanAcquire)) }
+    ensures again { OnPending result
+        (IfSome permits.new (λ permits. IfSome permits.waiting CanAcquire)) }
+    ensures armed { OnPending result (IsArmed cx.new) }
+    ensures kept { Keeps cx.old cx.new }
+{
+    match permits {
+        Some(permits) => permits.poll_into(place, cx),
+        None => Poll::Ready(true),
     }
 }
 
@@ -361,10 +398,7 @@ fn unchanged(alloc: Global, tag: HeaderValue) -> hyper::Result<Response<Full<Byt
     ensures err { IfErr result (λ e. kind_of e ≡ kinds.OutOfMemory) }
 {
     let fields = tag_alone(alloc, tag)?;
-    let mut response = Response::new(alloc, Full::new(Bytes::new()));
-    *response.status_mut() = StatusCode::NOT_MODIFIED;
-    *response.headers_mut() = fields;
-    Ok(response)
+    Ok(response_of(alloc, StatusCode::NOT_MODIFIED, fields, Bytes::new()))
 }
 
 // The whole reply, with its tag, if it has one. The only error is out of memory.
@@ -382,10 +416,24 @@ fn whole(
     let fields = fields_of(alloc, labels, tag, reply.body.is_empty())?;
     let body = shared_bytes(reply.body)?;
     let status = StatusCode::from_u16(reply.status).unwrap_or(StatusCode::SERVICE_UNAVAILABLE);
+    Ok(response_of(alloc, status, fields, body))
+}
+
+// The response of these.
+fn response_of(
+    alloc: Global,
+    status: StatusCode,
+    fields: HeaderMap,
+    body: Bytes,
+) -> Response<Full<Bytes>>
+    ensures status { (head_of result).status ≡ status }
+    ensures headers { (head_of result).headers ≡ fields }
+    ensures body { (body_of result).buf ≡ (if length body == 0 then None else Some body) }
+{
     let mut response = Response::new(alloc, Full::new(body));
     *response.status_mut() = status;
     *response.headers_mut() = fields;
-    Ok(response)
+    response
 }
 
 // The header fields of a response. One without a body is given without them where there is no
