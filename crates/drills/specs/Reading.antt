@@ -207,6 +207,16 @@ words_member d = get (codes "words") d >>= words_in
 abbrev pub reply_member : Data → Option ReplyTold
 reply_member d = get (codes "reply") d >>= reply_in
 
+-- an entry's words and reply, where each of them could be read
+abbrev pub answer_of : Option (List ℕ) → Option ReplyTold → Option (List ℕ × ReplyTold)
+answer_of words reply = do
+  words ← words
+  reply ← reply
+  Some (words, reply)
+
+abbrev pub answer_in : Data → Option (List ℕ × ReplyTold)
+answer_in d = answer_of (words_member d) (reply_member d)
+
 abbrev pub told_in : Data → Option Told
 told_in d = told_of (ask_member d) (words_member d) (reply_member d)
 

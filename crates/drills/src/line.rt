@@ -5,8 +5,8 @@ ghost use Rattle.std.specs.Vec.{vec_items};
 ghost use Rattle.serde_json.specs.View.{view};
 ghost use Rattle.node_calls.specs.Told.{ask_told, reply_told, told};
 ghost use Rattle.drills.specs.Lines.{head_told, line_told, receipt_told};
-ghost use Rattle.drills.specs.Reading.{ask_member, begin_in, head_in, line_in, line_of, members_in};
-ghost use Rattle.drills.specs.Reading.{number_member, pair_in, receipt_in, reply_member};
+ghost use Rattle.drills.specs.Reading.{answer_in, ask_member, begin_in, head_in, line_in, line_of};
+ghost use Rattle.drills.specs.Reading.{members_in, number_member, pair_in, receipt_in, reply_member};
 ghost use Rattle.drills.specs.Reading.{text_member, told_in, version_in, words_member};
 ghost use Rattle.drills.specs.Reading.{entry_alone, entry_in, head_alone, head_members_in};
 ghost use Rattle.drills.specs.Reading.{is_part, part_head_in, part_head_of};
@@ -71,19 +71,31 @@ fn reply_member(alloc: Global, value: &Value) -> Result<Option<Reply>, AllocErro
     }
 }
 
+// The words and the reply of an entry.
+fn answer_in(alloc: Global, value: &Value) -> Result<Option<(Vec<u32>, Reply)>, AllocError>
+    ensures { IfOk result (λ answer.
+        option_map (λ answer. (vec_items answer.0, reply_told answer.1)) answer
+        ≡ answer_in (view value.now)) }
+{
+    let Some(words) = words_member(alloc, value)? else {
+        return Ok(None);
+    };
+    match reply_member(alloc, value)? {
+        Some(reply) => Ok(Some((words, reply))),
+        None => Ok(None),
+    }
+}
+
 fn told_in(alloc: Global, value: &Value) -> Result<Option<Entry>, AllocError>
     ensures { IfOk result (λ entry. option_map told entry ≡ told_in (view value.now)) }
 {
     let Some(ask) = ask_member(alloc, value)? else {
         return Ok(None);
     };
-    let Some(words) = words_member(alloc, value)? else {
-        return Ok(None);
-    };
-    let Some(reply) = reply_member(alloc, value)? else {
-        return Ok(None);
-    };
-    Ok(Some(Entry { ask, words, reply }))
+    match answer_in(alloc, value)? {
+        Some((words, reply)) => Ok(Some(Entry { ask, words, reply })),
+        None => Ok(None),
+    }
 }
 
 fn receipt_in(alloc: Global, value: &Value) -> Result<Option<Receipt>, AllocError>
