@@ -160,6 +160,30 @@ fn empty_board<'a>(alloc: Global, traces: &'a [Trace]) -> Result<Board<'a>, Allo
     })
 }
 
+// Lets all calls stand that may, on a board on which none stands, and answers how many columns there
+// are.
+fn place_all<'a>(
+    board: &mut Board<'a>,
+    alloc: Global,
+    traces: &'a [Trace],
+) -> Result<u32, AllocError>
+    requires board { IsBoard traces.now board.old }
+    requires none { board.old.places.items ≡ [] }
+    requires few { length traces.now ≤ 256 }
+    ensures { IfOk result (λ columns.
+        AreAllColumns traces.now columns board.new.places.items) }
+{
+    for column in 0..u32::MAX {
+        let stand = column_of(alloc, board, traces, column)?;
+        if stand.is_empty() {
+            return Ok(column);
+        }
+        add_column(board, traces, &stand)?;
+    }
+    // No drill has so many.
+    Err(AllocError)
+}
+
 /// Places the calls of traces, which stand in the order of their nodes, each in the first column that
 /// the calls before it allow: those of its node, and the one that made the message that it takes.
 /// What waits for a message that no call before it can have made isn't placed.
@@ -169,21 +193,11 @@ pub fn place_calls(alloc: Global, traces: &[Trace]) -> Result<Placed, AllocError
         AreAllColumns traces.now placed.columns placed.places.items) }
 {
     let mut board = empty_board(alloc, traces)?;
-    for column in 0..u32::MAX {
-        let stand = column_of(alloc, &board, traces, column)?;
-        if stand.is_empty() {
-            let Board {
-                places,
-                positions: _,
-                made: _,
-            } = board;
-            return Ok(Placed {
-                places,
-                columns: column,
-            });
-        }
-        add_column(&mut board, traces, &stand)?;
-    }
-    // No drill has so many.
-    Err(AllocError)
+    let columns = place_all(&mut board, alloc, traces)?;
+    let Board {
+        places,
+        positions: _,
+        made: _,
+    } = board;
+    Ok(Placed { places, columns })
 }

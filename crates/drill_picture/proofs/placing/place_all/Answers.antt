@@ -1,6 +1,6 @@
 use Rattle.std.proofs.Common.{◌∙◌}
 use Rattle.drill_picture.proofs.Growing.{column_more}
-use Rattle.drill_picture.proofs.placing.place_calls.Goals as goal
+use Rattle.drill_picture.proofs.placing.place_all.Goals as goal
 
 pub loop-column-preserved : goal.loop-column-preserved
 loop-column-preserved c = record {
