@@ -92,9 +92,16 @@ fn told_in(alloc: Global, value: &Value) -> Result<Option<Entry>, AllocError>
     let Some(ask) = ask_member(alloc, value)? else {
         return Ok(None);
     };
-    match answer_in(alloc, value)? {
-        Some((words, reply)) => Ok(Some(Entry { ask, words, reply })),
-        None => Ok(None),
+    match answer_in(alloc, value) {
+        Ok(Some((words, reply))) => Ok(Some(Entry { ask, words, reply })),
+        Ok(None) => {
+            drop(ask);
+            Ok(None)
+        }
+        Err(error) => {
+            drop(ask);
+            Err(error)
+        }
     }
 }
 

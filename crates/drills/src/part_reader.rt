@@ -127,6 +127,7 @@ fn put_entry(part: &mut Part, entry: Entry) -> Result<bool, AllocError>
         (with_entry (part_of part.old) (told entry)) (part_of part.new)) }
 {
     if part.trace.len() as u64 >= part.head.cap {
+        drop(entry);
         return Ok(false);
     }
     add_entry(&mut part.trace, entry)?;

@@ -120,7 +120,10 @@ fn start_list(
 pub(crate) fn add_entry(trace: &mut Trace, entry: Entry) -> Result<(), AllocError>
     ensures { OnOk result (trace.new.calls ≡ trace.old.calls ++ told entry ∷ []) }
 {
-    trace.reserve_entry()?;
+    if trace.reserve_entry().is_err() {
+        drop(entry);
+        return Err(AllocError);
+    }
     trace.push_entry(entry);
     Ok(())
 }
@@ -132,6 +135,7 @@ fn push_entry(traces: &mut Vec<Trace>, node: u64, entry: Entry) -> Result<bool, 
         (traces_told traces.new.items)) }
 {
     let Some(trace) = traces.get_mut(node as usize) else {
+        drop(entry);
         return Ok(false);
     };
     add_entry(trace, entry)?;
@@ -149,6 +153,7 @@ fn push_receipt(
         (lists_told lists.new.items)) }
 {
     let Some(list) = lists.get_mut(number as usize) else {
+        drop(receipt);
         return Ok(false);
     };
     list.push(receipt)?;
@@ -195,7 +200,10 @@ fn put_entry(so_far: &mut SoFar, entry: Entry) -> Result<bool, AllocError>
 {
     match so_far.place {
         Place::InTrace(node) => push_entry(&mut so_far.drill.traces, node, entry),
-        Place::Nowhere | Place::InList(_) => Ok(false),
+        Place::Nowhere | Place::InList(_) => {
+            drop(entry);
+            Ok(false)
+        }
     }
 }
 
@@ -207,7 +215,10 @@ fn put_receipt(so_far: &mut SoFar, receipt: Receipt) -> Result<bool, AllocError>
 {
     match so_far.place {
         Place::InList(number) => push_receipt(&mut so_far.drill.lists, number, receipt),
-        Place::Nowhere | Place::InTrace(_) => Ok(false),
+        Place::Nowhere | Place::InTrace(_) => {
+            drop(receipt);
+            Ok(false)
+        }
     }
 }
 

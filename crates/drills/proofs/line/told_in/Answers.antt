@@ -20,16 +20,16 @@ unanswered ask None reply e = refl
 unanswered ask (Some words) None e = refl
 unanswered ask (Some words) (Some reply) e = absurd (cc)
 
-pub returns-in-Some-2 : goal.returns-in-Some-2
-returns-in-Some-2 c =
+pub returns-in-Ok-Some : goal.returns-in-Ok-Some
+returns-in-Ok-Some c =
     let d = view c.args.value.now in
     let asked : Some (ask_told c.in-Some.ask) ≡ ask_member d = rw c.in-Some.is at c.in_ok-ask.ensures in
-    answered (ask_told c.in-Some.ask) (words_member d) (reply_member d) _ _ (rw c.in-Some-2.is at c.in_ok-words.ensures)
+    answered (ask_told c.in-Some.ask) (words_member d) (reply_member d) _ _ (rw c.in-Ok-Some.field-0-is at c.in-Ok-Some.ensures)
     ∙ ap (λ ask. told_of ask (words_member d) (reply_member d)) asked
 
-pub returns-in-None : goal.returns-in-None
-returns-in-None c =
+pub returns-in-Ok-None : goal.returns-in-Ok-None
+returns-in-Ok-None c =
     let d = view c.args.value.now in
     let asked : Some (ask_told c.in-Some.ask) ≡ ask_member d = rw c.in-Some.is at c.in_ok-ask.ensures in
-    unanswered (ask_told c.in-Some.ask) (words_member d) (reply_member d) (rw c.in-None.is at c.in_ok-words.ensures)
+    unanswered (ask_told c.in-Some.ask) (words_member d) (reply_member d) (rw c.in-Ok-None.field-0-is at c.in-Ok-None.ensures)
     ∙ ap (λ ask. told_of ask (words_member d) (reply_member d)) asked
