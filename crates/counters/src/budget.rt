@@ -79,6 +79,9 @@ impl Budget {
         ensures rights { result ≡ false → into.new
             ≡ map (rights (budget_of self.now setter count)) (range_with_len 0 (length into.old)) }
     {
+        if self.ledger.surely_all_have(setter, count, into.len()) {
+            return true;
+        }
         self.rights_of_all(setter, count, into);
         are_some(into)
     }
