@@ -8,7 +8,7 @@ abbrev pub AreReadFrom : Shares → List ℤ → Type 0
 AreReadFrom shares balances =
     (node : ℕ) → node < length balances → get_or balances node (pos 0) ≡ balance_of shares node
 
--- the balance of each node, up to the last one that spent, moved or was given anything
+-- the balance of each node that has a place; one that has none spent, moved and was given nothing
 pub record AreBalances (shares : Shares) (balances : List ℤ) : Type 0 where
   pub few : length balances ≤ 256
   pub read : AreReadFrom shares balances

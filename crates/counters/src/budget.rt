@@ -69,8 +69,8 @@ impl Budget {
         }
     }
 
-    /// Whether each of the first nodes has a right, of as many as there are places. The rights of all
-    /// are written in these, as `rights_of_all` writes them.
+    /// Whether each of the first nodes has a right, of as many as there are places. Where one has none,
+    /// the rights of all are written in the places, as `rights_of_all` writes them.
     pub fn all_have_rights(&self, setter: u8, count: u64, into: &mut [i128]) -> bool
         requires { length into.old ≤ 256 }
         ensures len { length into.new ≡ length into.old }

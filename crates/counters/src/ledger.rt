@@ -1,6 +1,6 @@
 //! What the nodes spent and moved, beside the balance of each.
 
-ghost use Rattle.std.specs.Prelude.{◌≡◌, ◌≤◌, ◌<◌, ◌^◌, ◌≤ℤ◌, ◌+ℤ◌, ℕ, length, map, max, pos, get_or};
+ghost use Rattle.std.specs.Prelude.{◌≡◌, ◌≤◌, ◌<◌, ◌+◌, ◌^◌, ◌≤ℤ◌, ◌+ℤ◌, ℕ, length, map, max, pos, get_or};
 ghost use Rattle.std.specs.Prelude.{IfOk, IsTrue, OnOk, OnErr};
 ghost use Rattle.std.specs.List.{range_with_len};
 ghost use Rattle.counters.specs.Sums.{AreWithin};
@@ -42,6 +42,8 @@ impl Model for Ledger {
 // Has a place for the balance of a node. Memory is asked for only where there is none.
 fn make_place(balances: &mut Vec<i128>, node: u8) -> Result<(), AllocError>
     ensures ok { OnOk result (node < length balances.new.items) }
+    ensures len { OnOk result (length balances.new.items
+        ≡ max (length balances.old.items) (node + 1)) }
     ensures longer { IsLonger balances.old.items balances.new.items }
     ensures few { length balances.old.items ≤ 256 → length balances.new.items ≤ 256 }
     ensures absent { OnErr result (length balances.old.items ≤ node) }
