@@ -12,7 +12,6 @@ ghost use Rattle.counters.specs.Refusals.{spend_refusal, shift_refusal, grant_re
 use crate::cells::{number_in_row, number_of, total, total_of_own, write_numbers};
 use crate::fault::CounterFault;
 use crate::ledger::{Ledger, SpentAndMoved};
-use crate::shortage::are_some;
 use lattice_laws::Join;
 use std::alloc::{AllocError, Global};
 use std::marker::Model;
@@ -70,7 +69,8 @@ impl Budget {
     }
 
     /// Whether each of the first nodes has a right, of as many as there are places. Where one has none,
-    /// the rights of all are written in the places, as `rights_of_all` writes them.
+    /// the rights of all are written in the places, as `rights_of_all` writes them. It reads as far as
+    /// the first that is short.
     pub fn all_have_rights(&self, setter: u8, count: u64, into: &mut [i128]) -> bool
         requires { length into.old ≤ 256 }
         ensures len { length into.new ≡ length into.old }
@@ -79,11 +79,13 @@ impl Budget {
         ensures rights { result ≡ false → into.new
             ≡ map (rights (budget_of self.now setter count)) (range_with_len 0 (length into.old)) }
     {
-        if self.ledger.surely_all_have(setter, count, into.len()) {
-            return true;
+        for node in 0..into.len() {
+            if self.rights(setter, count, node as u8) <= 0 {
+                self.rights_of_all(setter, count, into);
+                return false;
+            }
         }
-        self.rights_of_all(setter, count, into);
-        are_some(into)
+        true
     }
 
     /// What a node spent.

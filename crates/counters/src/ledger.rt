@@ -1,11 +1,10 @@
 //! What the nodes spent and moved, beside the balance of each.
 
 ghost use Rattle.std.specs.Prelude.{◌≡◌, ◌≤◌, ◌<◌, ◌+◌, ◌^◌, ◌≤ℤ◌, ◌+ℤ◌, ℕ, length, map, max, pos, get_or};
-ghost use Rattle.std.specs.Prelude.{IfOk, IsTrue, OnOk, OnErr};
+ghost use Rattle.std.specs.Prelude.{IfOk, OnOk, OnErr};
 ghost use Rattle.std.specs.List.{range_with_len};
 ghost use Rattle.counters.specs.Sums.{AreWithin};
-ghost use Rattle.counters.specs.Budgets.{rights, AllHaveRights};
-ghost use Rattle.counters.specs.Cells.{no_shares, spent_cell, moved_cell, balance_of, budget_of};
+ghost use Rattle.counters.specs.Cells.{no_shares, spent_cell, moved_cell, balance_of};
 ghost use Rattle.counters.specs.Cells.{WritesSpent, WritesMoved};
 ghost use Rattle.counters.specs.Balances.{AreReadFrom, IsLonger, MovesBetween};
 
@@ -165,28 +164,6 @@ impl Ledger {
         ensures small { AreWithin (2 ^ 100) into.new }
     {
         copy_balances(&self.balances, into);
-    }
-
-    /// Whether each of the first nodes, of so many, surely has a right, where the setter has the whole
-    /// count at first. It reads the balances up to the first that is short.
-    pub(crate) fn surely_all_have(&self, setter: u8, count: u64, nodes: usize) -> bool
-        requires { nodes ≤ 256 }
-        ensures { IsTrue result → AllHaveRights (rights (budget_of self.now setter count)) nodes }
-    {
-        if self.balances.len() < nodes {
-            return false;
-        }
-        for place in 0..nodes {
-            let own = if place == usize::from(setter) {
-                count
-            } else {
-                0
-            };
-            if self.balances[place] + i128::from(own) <= 0 {
-                return false;
-            }
-        }
-        true
     }
 
     /// Raises what a node spent to at least this number. Memory is asked for only where it spent
