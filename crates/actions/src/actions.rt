@@ -23,9 +23,15 @@ use std::sync::Arc;
 ///
 /// Two are equal where their canonical texts are, and ordered as those are, byte by byte. Their
 /// terms are then the same too. They never change, so copies share them.
-#[derive(Debug, Drop)]
+#[derive(Debug)]
 pub struct Actions {
     spelled: Arc<Spelled>,
+}
+
+impl Drop for Actions {
+    fn drop(self) {
+        let Actions { spelled: _ } = self;
+    }
 }
 
 // The terms, and their canonical text.

@@ -54,13 +54,19 @@ impl From<AllocError> for NameFault {
 /// The name of a point: 1 to 128 ASCII letters, digits, `_`, `-`, `.` and `:`.
 ///
 /// Names are equal and ordered as their texts are, byte by byte.
-#[derive(Debug, Drop)]
+#[derive(Debug)]
 pub struct Name {
     // The first eight bytes as one number. Where those of two names differ, they are ordered as these
     // are, and no text is looked at.
     front: u64,
     text: String,
     ghost front_is: { front ≡ first_bytes 8 (string_bytes text) },
+}
+
+impl Drop for Name {
+    fn drop(self) {
+        let Name { front: _, text: _ } = self;
+    }
 }
 
 impl Model for Name {

@@ -22,9 +22,15 @@ use std::marker::Model;
 /// given, less what it moved away and spent. What a node granted stands where it would move rights
 /// to itself, as in the bounded counter's matrix (Balegas et al., SRDS 2015). Of two budgets that
 /// are joined, the greater number of each cell holds. After a refusal a budget is as it was.
-#[derive(Debug, Drop)]
+#[derive(Debug)]
 pub struct Budget {
     ledger: Ledger,
+}
+
+impl Drop for Budget {
+    fn drop(self) {
+        let Budget { ledger: _ } = self;
+    }
 }
 
 impl Model for Budget {

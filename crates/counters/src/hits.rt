@@ -14,9 +14,15 @@ use std::marker::Model;
 
 /// How many hits each node counted. Of two counters that are joined, each node's greater number
 /// holds. After a refusal a counter is as it was.
-#[derive(Debug, Drop)]
+#[derive(Debug)]
 pub struct HitCounter {
     hits: Cells,
+}
+
+impl Drop for HitCounter {
+    fn drop(self) {
+        let HitCounter { hits: _ } = self;
+    }
 }
 
 impl Model for HitCounter {

@@ -26,7 +26,7 @@ use std::alloc::{AllocError, Global};
 /// A replica with versions: it counts the changes of its state, knows when each key and each cell
 /// last changed, and keeps of each other node the version that it has of it and the version that
 /// the other is known to have.
-#[derive(Debug, Drop)]
+#[derive(Debug)]
 pub struct Versioned<R> {
     pub(crate) replica: R,
     version: u64,
@@ -34,6 +34,18 @@ pub struct Versioned<R> {
     acked: NodeVersions,
     pub(crate) marks: Marks,
     ghost upto: { AreUpto (marks_value marks) version },
+}
+
+impl<R: Drop> Drop for Versioned<R> {
+    fn drop(self) {
+        let Versioned {
+            replica: _,
+            version: _,
+            known: _,
+            acked: _,
+            marks: _,
+        } = self;
+    }
 }
 
 // What a pass counts beside the hit, where it executes a counted term.

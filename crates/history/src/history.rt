@@ -16,12 +16,22 @@ use std::mem;
 
 /// The accepted calls of a node's whole life, the first one first, of which the newest are kept. Calls
 /// are numbered from 0, and a number stays a call's own.
-#[derive(Debug, Drop)]
+#[derive(Debug)]
 pub struct History {
     kept: Trace,
     // How many calls are no longer kept, and what they told.
     from: u64,
     past: Log<Trace>,
+}
+
+impl Drop for History {
+    fn drop(self) {
+        let History {
+            kept: _,
+            from: _,
+            past: _,
+        } = self;
+    }
 }
 
 impl Model for History {

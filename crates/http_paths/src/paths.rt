@@ -13,10 +13,15 @@ use matchit::{InsertError, Params, Router};
 use std::alloc::{AllocError, Global};
 
 /// The routes, to be made once and lent to each request.
-#[derive(Drop)]
 pub struct Routes {
     router: Router<RouteId>,
     ghost whole: { router ≡ route_rows },
+}
+
+impl Drop for Routes {
+    fn drop(self) {
+        let Routes { router: _ } = self;
+    }
 }
 
 impl Routes {

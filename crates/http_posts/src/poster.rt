@@ -21,10 +21,15 @@ use tokio::net::TcpStream;
 use tokio::runtime::LocalRuntime;
 
 /// Posts messages, one after the other: a system, and the runtime in which its calls wait.
-#[derive(Drop)]
 pub struct Poster<R> {
     rt: R,
     runtime: LocalRuntime,
+}
+
+impl<R: Drop> Drop for Poster<R> {
+    fn drop(self) {
+        let Poster { rt: _, runtime: _ } = self;
+    }
 }
 
 impl<R: Wait + Clock + Net + RandomSource + AllocGlobal + Drop> Poster<R> {

@@ -28,7 +28,6 @@ use std::time::Clock;
 /// Its traffic has the messages that were handed to such a connection, each byte of them, and that
 /// were answered with 200. That the server read the same bytes isn't said. A message that failed
 /// isn't there, though its server may have it.
-#[derive(Drop)]
 pub struct HttpWire<R> {
     poster: Poster<R>,
     peers: Vec<Peer>,
@@ -39,6 +38,20 @@ pub struct HttpWire<R> {
     // The hellos that were answered with 200.
     hellos: Log<Posted>,
     forgetful: Vec<Forgetful>,
+}
+
+impl<R: Drop> Drop for HttpWire<R> {
+    fn drop(self) {
+        let HttpWire {
+            poster: _,
+            peers: _,
+            key: _,
+            ready: _,
+            sent: _,
+            hellos: _,
+            forgetful: _,
+        } = self;
+    }
 }
 
 // As what fails that isn't posted.

@@ -21,7 +21,7 @@ pub const MAX_MESSAGE: usize = 67_108_864;
 ///
 /// The numbers of a cell stand in the order in which they are written. The last is the count or
 /// the total, from 1 on.
-#[derive(Debug, Drop)]
+#[derive(Debug)]
 pub struct NameEntry {
     pub name: Name,
     pub key: Key,
@@ -35,6 +35,19 @@ pub struct NameEntry {
     /// A counted term of the key, a node, and how many rights to execute the term the node granted
     /// itself beyond the count.
     pub grants: Vec<(u8, u8, u64)>,
+}
+
+impl Drop for NameEntry {
+    fn drop(self) {
+        let NameEntry {
+            name: _,
+            key: _,
+            hits: _,
+            execs: _,
+            shifts: _,
+            grants: _,
+        } = self;
+    }
 }
 
 impl NameEntry {

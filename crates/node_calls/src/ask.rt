@@ -10,7 +10,7 @@ use crate::ask_ref::AskRef;
 use std::alloc::{AllocError, Global};
 
 /// What a node is asked.
-#[derive(Debug, Drop)]
+#[derive(Debug)]
 pub enum Ask {
     /// Sets a point to an action text.
     Set {
@@ -50,6 +50,30 @@ pub enum Ask {
     Deliver {
         message: Vec<u8>,
     },
+}
+
+impl Drop for Ask {
+    fn drop(self) {
+        match self {
+            Ask::Set { name: _, text: _ } => {}
+            Ask::Remove { name: _ } => {}
+            Ask::Load { text: _ } => {}
+            Ask::Pass { name: _ } => {}
+            Ask::Shift {
+                name: _,
+                term: _,
+                to: _,
+                amount: _,
+            } => {}
+            Ask::Grant {
+                name: _,
+                term: _,
+                amount: _,
+            } => {}
+            Ask::Emit { to: _ } => {}
+            Ask::Deliver { message: _ } => {}
+        }
+    }
 }
 
 impl Ask {

@@ -37,7 +37,7 @@ impl PassReply {
 }
 
 /// The answer to an ask that was accepted.
-#[derive(Debug, Drop)]
+#[derive(Debug)]
 pub enum Reply {
     /// The stamp of the setting.
     Set(Stamp),
@@ -55,6 +55,21 @@ pub enum Reply {
     Emit(Vec<u8>),
     /// Whether settings or cells changed.
     Deliver(bool),
+}
+
+impl Drop for Reply {
+    fn drop(self) {
+        match self {
+            Reply::Set(_) => {}
+            Reply::Remove(_) => {}
+            Reply::Load(_) => {}
+            Reply::Pass(_) => {}
+            Reply::Shift(_) => {}
+            Reply::Grant(_) => {}
+            Reply::Emit(_) => {}
+            Reply::Deliver(_) => {}
+        }
+    }
 }
 
 impl Reply {

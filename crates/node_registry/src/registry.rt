@@ -30,9 +30,14 @@ const PAUSES: [u32; 9] = [64, 128, 256, 512, 1024, 2048, 4096, 8192, 16384];
 
 /// One node behind one lock. Each accepted call is one step of the node, made while the lock is
 /// held, and its caller is given a receipt.
-#[derive(Drop)]
 pub struct Registry<L: Label> {
     lock: Mutex<Guarded<L>>,
+}
+
+impl<L: Label> Drop for Registry<L> {
+    fn drop(self) {
+        let Registry { lock: _ } = self;
+    }
 }
 
 impl<L: Label> Registry<L> {

@@ -10,11 +10,20 @@ use stamp_register::Stamp;
 use std::alloc::{AllocError, Global};
 
 /// What the passes of a point under one setting have in common.
-#[derive(Debug, Drop)]
+#[derive(Debug)]
 pub struct Row {
     pub name: Name,
     /// None where the point isn't set.
     pub setting: Option<Setting>,
+}
+
+impl Drop for Row {
+    fn drop(self) {
+        let Row {
+            name: _,
+            setting: _,
+        } = self;
+    }
 }
 
 /// A setting of a point: its stamp, and what the point does.

@@ -38,7 +38,7 @@ enum Slot {
 }
 
 /// The accepted calls of a node, the first one first.
-#[derive(Debug, Drop)]
+#[derive(Debug)]
 pub struct Trace {
     slots: Vec<Slot>,
     rows: Vec<Row>,
@@ -46,6 +46,18 @@ pub struct Trace {
     // The last row of each point, and a guess at the row of its passes.
     heads: Heads,
     guesses: Guesses,
+}
+
+impl Drop for Trace {
+    fn drop(self) {
+        let Trace {
+            slots: _,
+            rows: _,
+            entries: _,
+            heads: _,
+            guesses: _,
+        } = self;
+    }
 }
 
 impl Model for Trace {

@@ -6,12 +6,21 @@ use std::io::Write;
 
 /// A file behind which lines are written. A flush has what was written with the disk, where that is
 /// wanted: else it is with the system once it is written.
-#[derive(Drop)]
 pub struct PartFile {
     file: File,
     is_synced: bool,
     // Whether something was written since it was with the disk.
     is_ahead: bool,
+}
+
+impl Drop for PartFile {
+    fn drop(self) {
+        let PartFile {
+            file: _,
+            is_synced: _,
+            is_ahead: _,
+        } = self;
+    }
 }
 
 impl PartFile {

@@ -21,10 +21,16 @@ use std::collections::btree_map;
 
 /// The replica that nodes run: of each name its key with the budgets of its terms, and its hits,
 /// each number in a cell of its own. What is written changes its cell in place.
-#[derive(Debug, Drop)]
+#[derive(Debug)]
 pub struct Matrix {
     slots: Slots,
     ghost reached: { IsReached (shown_slots slots) },
+}
+
+impl Drop for Matrix {
+    fn drop(self) {
+        let Matrix { slots: _ } = self;
+    }
 }
 
 impl Matrix {

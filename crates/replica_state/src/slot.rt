@@ -34,9 +34,15 @@ pub(crate) type Budgets = MapOf<u8, Budget>;
 type Parts = PairOf<LexOf<Key, Budgets>, HitCounter>;
 
 /// A key with the budgets of its terms, and hits, which belong to no key.
-#[derive(Debug, Drop)]
+#[derive(Debug)]
 pub struct Slot {
     parts: Parts,
+}
+
+impl Drop for Slot {
+    fn drop(self) {
+        let Slot { parts: _ } = self;
+    }
 }
 
 impl Join for Slot {

@@ -27,11 +27,21 @@ pub struct Stamp {
 /// A setting's key. Of two settings of a point the one with the greater key holds: the one with
 /// the greater clock, then with the greater node, then with the greater body, where removed is
 /// below set and action texts go by their bytes.
-#[derive(Debug, Drop)]
+#[derive(Debug)]
 pub struct Key {
     pub clock: u64,
     pub node: u8,
     pub body: Body,
+}
+
+impl Drop for Key {
+    fn drop(self) {
+        let Key {
+            clock: _,
+            node: _,
+            body: _,
+        } = self;
+    }
 }
 
 impl fmt::Display for Stamp {
