@@ -10,9 +10,10 @@ use crate::forgetting::{Forgetting, forgetting_in};
 use crate::peer::Peer;
 use crate::waiting::{output_beside, output_of};
 use bytes::Bytes;
+use futures::Future;
 use http_body_util::Full;
 use hyper::body::Incoming;
-use hyper::client::conn::http1::handshake;
+use hyper::client::conn::http1::{self, SendRequest, handshake};
 use hyper::{Request, Response, StatusCode};
 use std::alloc::{AllocGlobal, Global};
 use std::hash::RandomState;
@@ -101,14 +102,39 @@ fn reply_to<R>(
 where
     R: Wait + Clock + RandomSource + AllocGlobal,
 {
-    let keys = RandomState::new(rt)?;
-    let Ok((mut sender, connection)) = handshake(alloc, keys, stream) else {
-        return Err(PostError::Failed);
+    let (mut sender, connection) = match opened(rt, alloc, stream) {
+        Ok(ends) => ends,
+        Err(e) => {
+            drop(request);
+            return Err(e);
+        }
     };
     let reply = sender.send_request(request);
     drop(sender);
     match output_beside(rt, runtime, reply, connection, deadline)? {
         Ok(reply) => Ok(reply),
+        Err(_) => Err(PostError::Failed),
+    }
+}
+
+// What sends requests over a stream, and what has to run beside it.
+fn opened<R: RandomSource>(
+    rt: &R,
+    alloc: Global,
+    stream: TcpStream,
+) -> Result<
+    (
+        SendRequest<Full<Bytes>>,
+        http1::Connection<TcpStream, Full<Bytes>>,
+    ),
+    PostError,
+>
+    ensures { IfOk result (λ ends.
+        ⟦<http1::Connection<TcpStream, Full<Bytes>> as Future>⟧.can_poll ends.1) }
+{
+    let keys = RandomState::new(rt)?;
+    match handshake(alloc, keys, stream) {
+        Ok(ends) => Ok(ends),
         Err(_) => Err(PostError::Failed),
     }
 }
@@ -127,6 +153,7 @@ where
     let status = reply.status().as_u16();
     // The body of any other says nothing of it.
     if status != 400 {
+        drop(reply);
         return None;
     }
     let first = FirstPiece {

@@ -1,6 +1,6 @@
 //! The fields of the head of a request.
 
-ghost use Rattle.std.specs.Prelude.{◌≡◌, option_copied, string_bytes, IfOk, OnOk};
+ghost use Rattle.std.specs.Prelude.{◌≡◌, [], option_copied, string_bytes, IfOk, OnOk};
 ghost use Rattle.http_header.specs.FieldValue.{plain_value};
 ghost use Rattle.http_header.specs.HeaderMap.{insert};
 ghost use Rattle.http_posts.specs.Posts.{fields_of, host_text};
@@ -40,6 +40,24 @@ fn put(alloc: Global, fields: &mut HeaderMap, name: HeaderName, text: &str) -> R
     }
 }
 
+// Puts what a request to the server at an address has: its name, and the key where there is one.
+fn put_all(
+    alloc: Global,
+    fields: &mut HeaderMap,
+    address: SocketAddr,
+    key: Option<&Key>,
+) -> Result<(), PostError>
+    requires { fields.old ≡ [] }
+    ensures { OnOk result (fields.new ≡ fields_of address (option_copied key.entry)) }
+{
+    let host = host_of(alloc, address)?;
+    put(alloc, fields, HOST, &host)?;
+    match key {
+        Some(key) => put(alloc, fields, AUTHORIZATION, &key.credentials),
+        None => Ok(()),
+    }
+}
+
 /// The fields of a request to the server at an address: its name, and the key where there is one.
 pub(crate) fn fields_of(
     alloc: Global,
@@ -48,11 +66,12 @@ pub(crate) fn fields_of(
 ) -> Result<HeaderMap, PostError>
     ensures { IfOk result (λ fields. fields ≡ fields_of address (option_copied key.entry)) }
 {
-    let host = host_of(alloc, address)?;
     let mut fields = HeaderMap::new(alloc);
-    put(alloc, &mut fields, HOST, &host)?;
-    if let Some(key) = key {
-        put(alloc, &mut fields, AUTHORIZATION, &key.credentials)?;
+    match put_all(alloc, &mut fields, address, key) {
+        Ok(()) => Ok(fields),
+        Err(e) => {
+            drop(fields);
+            Err(e)
+        }
     }
-    Ok(fields)
 }

@@ -2,7 +2,7 @@
 
 ghost use Rattle.std.specs.Prelude.{◌≡◌, option_copied, IfOk};
 ghost use Rattle.http_posts.specs.Answers.{IsAnswered};
-ghost use Rattle.http_posts.specs.Posts.{Posts, PostsHello};
+ghost use Rattle.http_posts.specs.Posts.{Posts, PostsHello, PostsTo};
 
 use crate::answer::{Exchanged, answered};
 use crate::connection::{Connection, POST_SECONDS};
@@ -75,8 +75,7 @@ impl<R: Wait + Clock + Net + RandomSource + AllocGlobal + Drop> Poster<R> {
         ensures answered { IfOk result IsAnswered }
         ensures stays { self.new.rt ≡ self.old.rt }
     {
-        let request = request(alloc, "/gossip", connection.peer.address, key, message)?;
-        answered(&self.rt, alloc, &mut self.runtime, connection, request)
+        self.post_to(alloc, connection, "/gossip", key, message)
     }
 
     /// Posts the number of a node that wants to be told to the server of a peer, as `post` does a message.
@@ -95,7 +94,25 @@ impl<R: Wait + Clock + Net + RandomSource + AllocGlobal + Drop> Poster<R> {
     {
         let mut buffer = Buffer::new();
         let number = buffer.format(node).as_bytes();
-        let request = request(alloc, "/hello", connection.peer.address, key, number)?;
+        self.post_to(alloc, connection, "/hello", key, number)
+    }
+
+    // Posts bytes to a path of the server of a peer.
+    fn post_to(
+        &mut self,
+        alloc: Global,
+        connection: Connection,
+        path: &str,
+        key: Option<&Key>,
+        bytes: &[u8],
+    ) -> Result<Exchanged, PostError>
+        ensures to { IfOk result (λ told. told.posted.peer ≡ connection.peer) }
+        ensures posts { IfOk result (λ told. PostsTo path.now connection.peer.address
+            (option_copied key.entry) bytes.now told.posted.request.value) }
+        ensures answered { IfOk result IsAnswered }
+        ensures stays { self.new.rt ≡ self.old.rt }
+    {
+        let request = request(alloc, path, connection.peer.address, key, bytes)?;
         answered(&self.rt, alloc, &mut self.runtime, connection, request)
     }
 }
