@@ -99,8 +99,14 @@ impl<'a, F: ConnectionFactory> Future for UntilEnded<'a, F> {
         if let Some(mut accepting) = self.accepting.take() {
             if !is_ended {
                 return match accepting.poll(cx) {
-                    Poll::Ready(Ok(clients)) => Poll::Ready(Ok(LetIn::All(clients))),
-                    Poll::Ready(Err(fault)) => Poll::Ready(Err(fault)),
+                    Poll::Ready(Ok(clients)) => {
+                        drop(accepting);
+                        Poll::Ready(Ok(LetIn::All(clients)))
+                    }
+                    Poll::Ready(Err(fault)) => {
+                        drop(accepting);
+                        Poll::Ready(Err(fault))
+                    }
                     Poll::Pending => {
                         self.accepting = Some(accepting);
                         Poll::Pending
@@ -112,6 +118,7 @@ impl<'a, F: ConnectionFactory> Future for UntilEnded<'a, F> {
                 Some(back) => accepting.factory.last(back),
                 None => None,
             };
+            drop(accepting);
         }
         if ready!(poll_last(&mut self.last, cx)) {
             self.tasks.shut_down();
