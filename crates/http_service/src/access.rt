@@ -135,8 +135,7 @@ fn shared_credentials(alloc: Global, key: &[u8]) -> Result<Arc<String>, AllocErr
     ensures { IfOk result (λ text. string_bytes (arc_value text) ≡ credentials_of key.now) }
 {
     let digits = encode(alloc, key)?;
-    let mut credentials = String::from_str(alloc, "Bearer ")?;
-    credentials.push_str(&digits)?;
+    let credentials = format!(in alloc; "Bearer {digits}")?;
     Ok(Arc::new(alloc, credentials)?)
 }
 

@@ -1,6 +1,6 @@
 //! Connections beside each other, each in a task of its own.
 
-ghost use Rattle.std.specs.Prelude.{◌≡◌, ◌<◌, ◌≤◌, ◌↔◌, IsTrue, IfSome, None};
+ghost use Rattle.std.specs.Prelude.{◌≡◌, ◌<◌, ◌≤◌, ◌↔◌, IsTrue, IfSome, None, is_some};
 ghost use Rattle.futures.specs.Poll.{IfReady, OnPending};
 ghost use Rattle.futures.specs.Task.{IsArmed, Keeps};
 ghost use Rattle.tokio.specs.Timers.{IsDelayedBy, sleep_deadline, timeout_delay, timeout_future};
@@ -190,6 +190,32 @@ fn poll_rest(rest: &mut Option<Sleep>, cx: &mut Context<'_>) -> Poll<()>
     Poll::Ready(())
 }
 
+// Waits for a rest to end, for a permit, and for a connection. `None` where there is no memory for the
+// permit.
+fn poll_came(
+    rest: &mut Option<Sleep>,
+    permits: &mut Permits,
+    permit: &mut Option<OwnedSemaphorePermit>,
+    listener: &mut TcpListener,
+    cx: &mut Context<'_>,
+) -> Poll<Option<io::Result<(TcpStream, SocketAddr)>>>
+    requires { IfSome permits.old.waiting CanAcquire }
+    ensures goes { IfReady result
+        (λ came. IfSome came (λ _. IfSome permits.new.waiting CanAcquire)) }
+    ensures there { IfReady result
+        (λ came. IfSome came (λ _. IsTrue (is_some permit.new) × (rest.new ≡ None))) }
+    ensures again { OnPending result (IfSome permits.new.waiting CanAcquire) }
+    ensures armed { OnPending result (IsArmed cx.new) }
+    ensures kept { Keeps cx.old cx.new }
+{
+    ready!(poll_rest(rest, cx));
+    if !ready!(permits.poll_into(permit, cx)) {
+        return Poll::Ready(None);
+    }
+    let came = ready!(listener.poll_accept(cx));
+    Poll::Ready(Some(came))
+}
+
 impl<F: ConnectionFactory> Future for Accepting<'_, F> {
     type Output = Result<Clients, ServeFault>;
 
@@ -203,11 +229,15 @@ impl<F: ConnectionFactory> Future for Accepting<'_, F> {
             if self.clients.count() == self.wanted {
                 return Poll::Ready(Ok(self.clients));
             }
-            ready!(poll_rest(&mut self.rest, cx));
-            if !ready!(self.permits.poll_into(&mut self.permit, cx)) {
+            let Some(came) = ready!(poll_came(
+                &mut self.rest,
+                &mut self.permits,
+                &mut self.permit,
+                &mut self.listener,
+                cx,
+            )) else {
                 return Poll::Ready(Err(ServeFault::OutOfMemory));
-            }
-            let came = ready!(self.listener.poll_accept(cx));
+            };
             match let_in(came, &mut self.clients) {
                 Came::Client(socket) => {
                     // Without memory for its task the connection is closed, and counts as served.

@@ -97,6 +97,24 @@ enum Reading {
     Broken(hyper::Error),
 }
 
+impl<H, R> ConnectionService<H, R> {
+    // Who is asked for the reply, and the permits of which the body needs one. Where there is no memory
+    // for these, nobody is.
+    fn asked(&self, needs_permit: bool) -> (Option<Permits>, Option<Arc<H>>)
+        ensures permits { IfSome result.0 (λ permits. IfSome permits.waiting CanAcquire) }
+        ensures handler { (option_map arc_value result.1 ≡ option_map arc_value self.now.handler)
+            ⊎ (result.1 ≡ None) }
+    {
+        if !needs_permit {
+            return (None, shared(&self.handler));
+        }
+        match again(&self.long) {
+            Some(long) => (Some(long), shared(&self.handler)),
+            None => (None, None),
+        }
+    }
+}
+
 impl<I: Drop, H: Handler, R: Wait + Clock + Copy> Service<Request<Incoming<I>>>
     for ConnectionService<H, R> {
     type Response = Response<Full<Bytes>>;
@@ -112,16 +130,11 @@ impl<I: Drop, H: Handler, R: Wait + Clock + Copy> Service<Request<Incoming<I>>>
         let need = self.access.key_need(head.method.as_str(), head.uri.path());
         let refusal = judge(&head.headers, &self.access, need, self.port);
         let is_too_long = tells_too_long(&body);
-        let needs_permit = refusal.is_none() && !is_too_long && !is_short(&body);
-        let long = if needs_permit {
-            again(&self.long)
+        let needs_permit = !is_too_long && !is_short(&body);
+        let (long, handler) = if refusal.is_none() {
+            self.asked(needs_permit)
         } else {
-            None
-        };
-        let handler = if refusal.is_none() && (long.is_some() || !needs_permit) {
-            shared(&self.handler)
-        } else {
-            None
+            (None, None)
         };
         Exchange {
             alloc: self.alloc,
