@@ -32,19 +32,19 @@ fn made(core: &mut NodeCore, alloc: Global, ask: AskRef<'_>) -> Result<Reply, No
     ensures err { OnErr result (core.new ≡ core.old) }
 {
     match ask {
-        AskRef::Set { name, text } => Ok(Reply::Set(core.set(alloc, name, text)?)),
-        AskRef::Remove { name } => Ok(Reply::Remove(core.remove(alloc, name)?)),
-        AskRef::Load { text } => Ok(Reply::Load(core.load(alloc, text)?)),
+        AskRef::Set { name, text } => core.set(alloc, name, text).map(Reply::Set),
+        AskRef::Remove { name } => core.remove(alloc, name).map(Reply::Remove),
+        AskRef::Load { text } => core.load(alloc, text).map(Reply::Load),
         AskRef::Shift {
             name,
             term,
             to,
             amount,
-        } => Ok(Reply::Shift(core.shift(alloc, name, term, to, amount)?)),
+        } => core.shift(alloc, name, term, to, amount).map(Reply::Shift),
         AskRef::Grant { name, term, amount } => {
-            Ok(Reply::Grant(core.grant(alloc, name, term, amount)?))
+            core.grant(alloc, name, term, amount).map(Reply::Grant)
         }
-        AskRef::Deliver { message } => Ok(Reply::Deliver(core.deliver(alloc, message)?)),
+        AskRef::Deliver { message } => core.deliver(alloc, message).map(Reply::Deliver),
         // No request asks for either.
         AskRef::Pass { .. } | AskRef::Emit { .. } => core.call(alloc, ask, &[]),
     }
