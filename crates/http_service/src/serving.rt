@@ -34,7 +34,7 @@ use std::thread::Threads;
 use std::time::{Clock, Duration};
 use tokio::net::{TcpListener, TcpStream};
 use tokio::runtime::Runtime;
-use tokio::sync::{OwnedNotified, OwnedSemaphorePermit};
+use tokio::sync::OwnedSemaphorePermit;
 use tokio::time::{Handle, Sleep, Timeout};
 
 /// How long the head of a request may take.
@@ -290,7 +290,9 @@ where
     ensures read { IfOk result (λ f. f.http.config.max_buf_size ≡ READ_AT_ONCE) }
     ensures err { IfErr result (λ f. (f ≡ AcceptFailed) ⊎ (f ≡ OutOfMemory)) }
 {
-    let (http, timers, long) = means_of(rt, alloc, runtime)?;
+    let http = builder_of(rt, alloc, runtime)?;
+    let timers = runtime.handle().time().clone()?;
+    let long = Permits::new(alloc, LONG_AT_ONCE)?;
     Ok(HttpConnections {
         alloc,
         rt: *rt,
@@ -301,27 +303,6 @@ where
         http,
         timers,
     })
-}
-
-// What connections are made with, what their time is measured by, and the permits of long bodies.
-fn means_of<R>(
-    rt: &R,
-    alloc: Global,
-    runtime: &Runtime,
-) -> Result<(Builder<TokioTimer<R>>, Handle, Permits), ServeFault>
-where
-    R: Clock + RandomSource + Copy,
-    ensures keep_alive { IfOk result (λ means. IsFalse means.0.options.keep_alive) }
-    ensures head { IfOk result (λ means. IsSomeAnd means.0.options.header_read_timeout
-        (λ head. as_nanos head ≡ HEAD_SECONDS * 1_000_000_000)) }
-    ensures read { IfOk result (λ means. means.0.config.max_buf_size ≡ READ_AT_ONCE) }
-    ensures long { IfOk result (λ means. means.2.count ≡ LONG_AT_ONCE) }
-    ensures err { IfErr result (λ f. (f ≡ AcceptFailed) ⊎ (f ≡ OutOfMemory)) }
-{
-    let http = builder_of(rt, alloc, runtime)?;
-    let timers = runtime.handle().time().clone()?;
-    let long = Permits::new(alloc, LONG_AT_ONCE)?;
-    Ok((http, timers, long))
 }
 
 // Makes a connection over HTTP of a socket: with one request, whose head has its time.
@@ -364,22 +345,6 @@ where
     }
 }
 
-// A set for the tasks of connections, and the bell by which the end of their service is heard.
-fn tasks_and_bell<R, T>(
-    rt: &R,
-    runtime: &Runtime,
-    ending: &Ending,
-) -> Result<(TaskSet<T>, OwnedNotified), ServeFault>
-where
-    R: RandomSource + AllocGlobal,
-    T: Future<Output = ()>,
-    ensures { IfErr result (λ f. (f ≡ AcceptFailed) ⊎ (f ≡ OutOfMemory)) }
-{
-    let tasks = task_set(rt, runtime)?;
-    let bell = ending.listen()?;
-    Ok((tasks, bell))
-}
-
 /// Accepts so many connections, and returns once the task of each has ended.
 fn admit<R, F>(
     rt: &R,
@@ -420,7 +385,8 @@ where
     requires { IfSome permits.waiting CanAcquire }
     ensures { AreLetInOrEnded requests result }
 {
-    let (tasks, bell) = tasks_and_bell(rt, runtime, ending)?;
+    let tasks = task_set(rt, runtime)?;
+    let bell = ending.listen()?;
     let accepting = Accepting::new(&tasks, listener, factory, permits, requests);
     let until_ended = UntilEnded::new(accepting, ending, bell);
     match runtime.block_on_with(rt, &tasks, until_ended) {
