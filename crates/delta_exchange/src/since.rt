@@ -1,6 +1,6 @@
 //! What changed of a replica with versions after one of them, as a message.
 
-ghost use Rattle.std.specs.Prelude.{◌≡◌, ◌++◌, ◌||◌, nat_lt, [], ℕ, map, IfOk, IsSome, OnOk};
+ghost use Rattle.std.specs.Prelude.{◌≡◌, ◌++◌, ◌||◌, false, nat_lt, [], ℕ, map, IfOk, IsSome, OnOk};
 ghost use Rattle.std.specs.List.{AllByRecursion, cons_option};
 ghost use Rattle.std.specs.BTreeMap.{IsOrdered};
 ghost use Rattle.std.specs.Ordering.{nat_cmp};
@@ -165,6 +165,43 @@ fn grants_since<S: Stored>(
     Ok(grants)
 }
 
+/// The entry of a name under a key that tells no cell.
+fn bare_entry(alloc: Global, name: &Name, key: &Key) -> Result<NameEntry, AllocError>
+    ensures name { IfOk result (λ e. e.name ≡ name.now) }
+    ensures key { IfOk result (λ e. key_value e.key ≡ key_value key.now) }
+    ensures bare { IfOk result (λ e. tells_cells (entry_value e) ≡ false) }
+{
+    Ok(NameEntry {
+        name: name.copied(alloc)?,
+        key: key.copied(alloc)?,
+        hits: Vec::new(alloc),
+        execs: Vec::new(alloc),
+        shifts: Vec::new(alloc),
+        grants: Vec::new(alloc),
+    })
+}
+
+/// Puts the cells of a name that changed after a version into the entry of its key.
+fn put_cells_since<S: Stored>(
+    alloc: Global,
+    entry: &mut NameEntry,
+    held: PointReader<S>,
+    base: u64,
+    marks: &NameMarks,
+) -> Result<(), AllocError>
+    ensures ordered { OnOk result (IsOrdered counted_cmp marks.now.cells) }
+    ensures fits { OnOk result (EntryFits (entry_value entry.new)) }
+    ensures entry { OnOk result (entry_value entry.new
+        ≡ entry_since (reader_held S.held held.entry) entry.old.name (key_value entry.old.key)
+        base marks.now) }
+{
+    entry.hits = hits_since(alloc, held, base, marks)?;
+    entry.execs = execs_since(alloc, held, base, marks)?;
+    entry.shifts = shifts_since(alloc, held, base, marks)?;
+    entry.grants = grants_since(alloc, held, base, marks)?;
+    Ok(())
+}
+
 /// What changed of a name under its key after a version.
 fn entry_since<S: Stored>(
     alloc: Global,
@@ -180,14 +217,9 @@ fn entry_since<S: Stored>(
         ≡ entry_since (reader_held S.held held.entry) name.now (key_value key.now)
         base marks.now) }
 {
-    Ok(NameEntry {
-        name: name.copied(alloc)?,
-        key: key.copied(alloc)?,
-        hits: hits_since(alloc, held, base, marks)?,
-        execs: execs_since(alloc, held, base, marks)?,
-        shifts: shifts_since(alloc, held, base, marks)?,
-        grants: grants_since(alloc, held, base, marks)?,
-    })
+    let mut entry = bare_entry(alloc, name, key)?;
+    put_cells_since(alloc, &mut entry, held, base, marks)?;
+    Ok(entry)
 }
 
 /// Whether an entry tells a cell.
