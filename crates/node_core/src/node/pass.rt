@@ -202,9 +202,16 @@ impl NodeCore {
         let (words, outcome) = outcome_of(alloc, self.replica.state(), me, point, source)?;
         let pass = outcome.pass(point, &words);
         let reply = reply_if(alloc, pass, wants_reply)?;
-        let prepared = self.history.prepare(alloc, pass)?;
+        let Ok(prepared) = self.history.prepare(alloc, pass) else {
+            drop(reply);
+            return Err(NodeFault::OutOfMemory);
+        };
         let (is_set, spent) = (outcome.setting.is_some(), outcome.spent);
-        count(&mut self.replica, alloc, me, point, is_set, spent)?;
+        if let Err(AllocError) = count(&mut self.replica, alloc, me, point, is_set, spent) {
+            drop(prepared);
+            drop(reply);
+            return Err(NodeFault::OutOfMemory);
+        }
         self.history.push(prepared);
         Ok((words, reply))
     }

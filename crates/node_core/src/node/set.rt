@@ -149,13 +149,20 @@ impl NodeCore {
         ensures after { OnOk result (self.new ≡ after_call self.old (call_of self.old entry).ask []) }
         ensures err { OnErr result (self.new ≡ self.old) }
     {
-        self.history.reserve_entry()?;
+        if let Err(error) = self.history.reserve_entry() {
+            drop(body);
+            drop(entry);
+            return Err(error);
+        }
         let key = Key {
             clock: self.clock + 1,
             node: self.config.node,
             body,
         };
-        self.replica.set_key(alloc, point, key)?;
+        if let Err(error) = self.replica.set_key(alloc, point, key) {
+            drop(entry);
+            return Err(error);
+        }
         self.clock += 1;
         self.history.push_entry(entry);
         Ok(())

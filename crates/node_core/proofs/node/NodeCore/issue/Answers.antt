@@ -13,7 +13,7 @@ invariant_of-self-2 c =
     let clocks = rw (← c.self.view_is) at c.requires.clock in
     let few = rw (← c.self.view_is) at c.requires.few in
     entries_with node.config _ _ node.history.calls _ c.push_entry.new.self.calls _ c.push_entry.ensures.calls
-    c.in_ok-reserve_entry.ensures.calls
+    c.in_default.ensures.calls
     (set_with k node.clock (value_in node.replica) _ _ c.self.invariant
     {name = c.args.point} {body = body_value c.args.body} (record {
       room = room;
@@ -24,7 +24,7 @@ invariant_of-self-2 c =
       bodied = c.requires.body;
       place = few;
     })
-    c.in_ok-set_key.ensures.ok)
+    c.in_default-set_key.ensures.ok)
 
 pub set_key-requires-clause-above : goal.set_key-requires-clause-above
 set_key-requires-clause-above c =
@@ -37,4 +37,4 @@ push_entry-requires-clause-few c =
     let node = c.self.inside in
     let room = rw (← c.self.view_is) at c.requires.room in
     few_calls node.config node.clock (value_in node.replica) node.history.calls _ c.self.invariant room
-    c.in_ok-reserve_entry.ensures.calls
+    c.in_default.ensures.calls

@@ -45,11 +45,11 @@ kept g c = record {
 
 is_kept : (g : Over) (c : goal.After-push g) → c.push.new.self.calls ≡ grown c.self.inside.history.calls (kept g c)
 is_kept g c =
-    let told = c.in_ok-prepared.ensures.told ∙ ap pass_value c.pass-pass.ensures ∙
+    let told = c.in-Ok.ensures.told ∙ ap pass_value c.pass-pass.ensures ∙
     ap (λ (ws : List ℕ). record { ask = passes c.args.point.now; words = ws; reply = (kept g c).reply })
     c.deref.ensures.value in
     c.push.ensures.calls ∙ ap (λ (t : Told). grown c.prepare.new.self.calls t) told
-    ∙ ap (λ (calls : Calls). grown calls (kept g c)) c.in_ok-prepared.ensures.calls
+    ∙ ap (λ (calls : Calls). grown calls (kept g c)) c.in-Ok.ensures.calls
 
 pub invariant_of-self-2 : goal.invariant_of-self-2
 invariant_of-self-2 g c =
@@ -72,14 +72,14 @@ invariant_of-self-2 g c =
         rights t s,
       );
     })
-    c.in_ok-count.ensures.done c.in_ok-count.ensures.unset)
+    c.in_default-count.ensures.done c.in_default-count.ensures.unset)
 
 pub push-requires-clause-few : goal.push-requires-clause-few
 push-requires-clause-few g c =
     let node = c.self.inside in
     let room = rw (← c.self.view_is) at c.requires.room in
     few_calls node.config node.clock (value_in node.replica) node.history.calls _ c.self.invariant room
-    c.in_ok-prepared.ensures.calls
+    c.in-Ok.ensures.calls
 
 pub returns-clause-ok : goal.returns-clause-ok
 returns-clause-ok g c =
