@@ -104,12 +104,16 @@ impl<L: Label, W: Write> Recording<L, W> {
         ensures seat { self.new.seat ≡ self.old.seat }
     {
         let is_there = has_call(piece, &receipt);
-        self.lines.keep(alloc, &piece.trace)?;
+        if let Err(fault) = self.lines.keep(alloc, &piece.trace) {
+            drop(receipt);
+            return Err(fault);
+        }
         if is_there {
             let Receipt { entry, .. } = receipt;
             let Entry { reply, .. } = entry;
             Ok(reply)
         } else {
+            drop(receipt);
             Err(NotRecorded)
         }
     }

@@ -69,9 +69,15 @@ pub fn repeat_call<L: Label, R: Wait>(
     let Entry { ask, words, reply } = entry;
     let made = match registry.enter_owned(rt, alloc, seat, ask) {
         Ok(made) => made,
-        Err(fault) => return Err(refused(fault)),
+        Err(fault) => {
+            drop(reply);
+            return Err(refused(fault));
+        }
     };
-    if is_answered(&made.entry, words.as_slice(), &reply) {
+    let is_given = is_answered(&made.entry, words.as_slice(), &reply);
+    drop(made);
+    drop(reply);
+    if is_given {
         Ok(())
     } else {
         Err(LineFault::Differs)

@@ -9,5 +9,5 @@ returns-then-is_there-clause-ok g c = record {
   asked = refl;
   answered = refl;
   among = c.has_call-is_there.ensures c.if-is_there.true;
-  written = c.in_ok-keep.ensures.ok;
+  written = c.in_default.ensures.ok;
 }
