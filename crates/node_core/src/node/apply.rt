@@ -49,14 +49,19 @@ impl NodeCore {
             (ask_value_first self.old.config.nodes ask.now) words.now) }
         ensures err { OnErr result (self.new ≡ self.old) }
     {
-        let copy = ask.copied(alloc)?;
         let recorded = Vec::from_slice(alloc, words)?;
-        let reply = self.answer(alloc, ask, words)?;
-        Ok(Entry {
-            ask: copy,
-            words: recorded,
-            reply,
-        })
+        let copy = ask.copied(alloc)?;
+        match self.answer(alloc, ask, words) {
+            Ok(reply) => Ok(Entry {
+                ask: copy,
+                words: recorded,
+                reply,
+            }),
+            Err(fault) => {
+                drop(copy);
+                Err(fault)
+            }
+        }
     }
 
     /// Makes a call that is given as a value, as `apply` does, and answers its reply alone, so that
@@ -109,11 +114,17 @@ impl NodeCore {
         ensures err { OnErr result (self.new ≡ self.old) }
     {
         if !words.is_empty() {
-            return self.answer(alloc, &ask, words);
+            let answered = self.answer(alloc, &ask, words);
+            drop(ask);
+            return answered;
         }
         match ask.into_message() {
             Ok(message) => Ok(Reply::Deliver(self.deliver_owned(alloc, message)?)),
-            Err(ask) => self.answer(alloc, &ask, &[]),
+            Err(ask) => {
+                let answered = self.answer(alloc, &ask, &[]);
+                drop(ask);
+                answered
+            }
         }
     }
 
