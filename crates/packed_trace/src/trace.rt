@@ -283,8 +283,8 @@ impl Trace {
         ensures calls { self.new.calls ≡ self.old.calls }
         ensures rows { self.new.rows ≡ self.old.rows }
     {
-        let entry = Box::new(alloc, pass.to_entry(alloc)?)?;
         self.reserve_entry()?;
+        let entry = Box::new(alloc, pass.to_entry(alloc)?)?;
         Ok(Prepared::Entry(entry))
     }
 
@@ -390,7 +390,10 @@ impl Trace {
         ensures { OnOk result (self.new.calls ≡ self.old.calls ++ map told entries.items) }
     {
         for entry in entries {
-            self.reserve_entry()?;
+            if let Err(error) = self.reserve_entry() {
+                drop(entry);
+                return Err(error);
+            }
             self.push_entry(entry);
         }
         Ok(())
