@@ -88,7 +88,13 @@ impl NodeCell {
         ensures err { OnErr result (self.new ≡ self.old) }
     {
         let NodeCell { core, generator } = self;
-        let (words, reply) = call_with_words(core, generator, alloc, &ask)?;
+        let (words, reply) = match call_with_words(core, generator, alloc, &ask) {
+            Ok(answered) => answered,
+            Err(fault) => {
+                drop(ask);
+                return Err(fault);
+            }
+        };
         Ok(Entry { ask, words, reply })
     }
 

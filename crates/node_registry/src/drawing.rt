@@ -47,7 +47,9 @@ pub(crate) fn submit_with_words(
     ensures err { OnErr result ((core.new ≡ core.old) × (generator.new ≡ generator.old)) }
 {
     if ask.is_pass() {
-        return call_with_words(core, generator, alloc, &ask);
+        let answered = call_with_words(core, generator, alloc, &ask);
+        drop(ask);
+        return answered;
     }
     let reply = core.submit(alloc, ask, &[])?;
     Ok((Vec::new(alloc), reply))

@@ -8,8 +8,8 @@ pub invariant_of-self-2 : goal.invariant_of-self-2
 invariant_of-self-2 c =
     let k : Kept = c.self.inside.core in
     let g : ChaCha = c.self.inside.generator in
-    let arm = c.in_ok-words in
-    let e : Entry = record { ask = c.args.ask; words = arm.words; reply = arm.reply } in
+    let arm = c.in-Ok in
+    let e : Entry = record { ask = c.args.ask; words = arm.answered.0; reply = arm.answered.1 } in
     let new : Kept = c.call_with_words.new.core in
     let after : ChaCha = c.call_with_words.new.generator in
     let draws : Draws k new g after e = record {
@@ -26,8 +26,8 @@ pub returns-clause-ok : goal.returns-clause-ok
 returns-clause-ok c =
     let k : Kept = c.self.inside.core in
     let g : ChaCha = c.self.inside.generator in
-    let arm = c.in_ok-words in
-    let e : Entry = record { ask = c.args.ask; words = arm.words; reply = arm.reply } in
+    let arm = c.in-Ok in
+    let e : Entry = record { ask = c.args.ask; words = arm.answered.0; reply = arm.answered.1 } in
     let new : Kept = c.call_with_words.new.core in
     let after : ChaCha = c.call_with_words.new.generator in
     let draws : Draws k new g after e = record {
