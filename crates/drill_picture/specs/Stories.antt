@@ -96,6 +96,21 @@ after_acting b nodes node under call s = record {
   parcels = parcels_after b nodes node under (slice_index s.row.held node) call.ask call.reply s.parcels;
 }
 
+-- behind a shift of rights to the term, and behind a delivery, of a node that has the setting
+abbrev pub after_shift : ℕ → ℕ → ℕ → ReplyTold → StoryTold → StoryTold
+after_shift node to amount reply s = record {
+  known = s.known;
+  row = after_send node to amount s.row;
+  parcels = s.parcels ++ sent_parcel node to (min amount (slice_index s.row.held node)) reply;
+}
+
+abbrev pub after_delivery : BudgetTold → ℕ → ℕ → List ℕ → StoryTold → StoryTold
+after_delivery b nodes node bytes s = record {
+  known = s.known;
+  row = after_message b nodes node bytes s.parcels s.row;
+  parcels = left_by_message b nodes node bytes s.parcels;
+}
+
 abbrev pub story_by : BudgetTold → ℕ → ℕ → Told → StoryTold → Known → Known → StoryTold
 story_by b nodes node call s before after =
     after_acting b nodes node (is_under b after) call (after_knowing b node before after s)

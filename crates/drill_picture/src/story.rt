@@ -8,9 +8,10 @@ ghost use Rattle.node_calls.specs.Told.{reply_ref_told};
 ghost use Rattle.packed_trace.specs.Packed.{seen_told};
 ghost use Rattle.drill_picture.specs.Budgets.{budget_told, is_of_budget};
 ghost use Rattle.drill_picture.specs.Rights.{after_arrival, cell_covers, entry_covers, is_brought};
-ghost use Rattle.drill_picture.specs.Stories.{after_acting, after_bin, after_call, after_message};
-ghost use Rattle.drill_picture.specs.Stories.{after_place, first_story, left_by_message};
-ghost use Rattle.drill_picture.specs.Stories.{message_nodes, ran, sent_parcel, story_told};
+ghost use Rattle.drill_picture.specs.Stories.{after_acting, after_bin, after_call, after_delivery};
+ghost use Rattle.drill_picture.specs.Stories.{after_message, after_place, after_shift};
+ghost use Rattle.drill_picture.specs.Stories.{first_story, left_by_message, message_nodes, ran};
+ghost use Rattle.drill_picture.specs.Stories.{sent_parcel, story_told};
 
 use crate::budget::Budget;
 use crate::calls::call_at;
@@ -182,6 +183,47 @@ fn add_parcel(
     }
 }
 
+// A shift of rights to the term.
+fn add_shift(
+    story: &mut Story,
+    node: u8,
+    to: u8,
+    amount: u64,
+    reply: ReplyRef<'_>,
+) -> Result<(), AllocError>
+    ensures { OnOk result (story_told story.new
+        ≡ after_shift node to amount (reply_ref_told reply.entry) (story_told story.old)) }
+{
+    let sent = amount.min(story.row.held_by(node as usize));
+    story.row.send(node as usize, to as usize, amount);
+    add_parcel(&mut story.parcels, node, to, sent, reply)
+}
+
+// A delivery at a node that has the setting.
+fn add_delivery(
+    story: &mut Story,
+    alloc: Global,
+    budget: &Budget<'_>,
+    nodes: u8,
+    node: u8,
+    message: &[u8],
+) -> Result<(), AllocError>
+    ensures { OnOk result (story_told story.new
+        ≡ after_delivery (budget_told budget.now) nodes node message.now (story_told story.old)) }
+{
+    let left = take_message(
+        alloc,
+        &mut story.row,
+        &story.parcels,
+        budget,
+        nodes,
+        node,
+        message,
+    )?;
+    story.parcels = left;
+    Ok(())
+}
+
 // What a call of a node does to the rights, if the node has the setting.
 fn act(
     story: &mut Story,
@@ -208,9 +250,7 @@ fn act(
             amount,
         } => {
             if under && is_of_budget(budget, name, term) {
-                let sent = amount.min(story.row.held_by(node as usize));
-                story.row.send(node as usize, to as usize, amount);
-                add_parcel(&mut story.parcels, node, to, sent, call.reply())?;
+                return add_shift(story, node, to, amount, call.reply());
             }
         }
         AskRef::Grant { name, term, amount } => {
@@ -220,15 +260,7 @@ fn act(
         }
         AskRef::Deliver { message } => {
             if under {
-                story.parcels = take_message(
-                    alloc,
-                    &mut story.row,
-                    &story.parcels,
-                    budget,
-                    nodes,
-                    node,
-                    message,
-                )?;
+                return add_delivery(story, alloc, budget, nodes, node, message);
             }
         }
         AskRef::Set { .. } | AskRef::Remove { .. } | AskRef::Load { .. } | AskRef::Emit { .. } => {}

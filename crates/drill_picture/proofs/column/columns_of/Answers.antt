@@ -1,7 +1,8 @@
-use Rattle.std.proofs.Common.{◌≡◌, ◌+◌, suc, [], ◌∷◌, ◌++◌, ap, ◌∙◌, add-one}
+use Rattle.std.proofs.Common.{arith, ◌≡◌, ◌+◌, suc, [], ◌∷◌, ◌++◌, ap, ◌∙◌, add-one}
 use Rattle.drill_picture.specs.Budgets.{budget_told}
 use Rattle.drill_picture.specs.Charts.{columns_below, levels_below}
 use Rattle.drill_picture.specs.Stories.{after_bin, story_behind, story_told}
+use Rattle.std.proofs.lemmas.Grind.{common_steps}
 use Rattle.drill_picture.proofs.column.columns_of.Goals as goal
 
 pub loop-bin-preserved : goal.loop-bin-preserved
@@ -21,3 +22,12 @@ loop-bin-preserved c =
           ∙ ap (λ s. columns_below traces scale places budget bin ++ levels_below s.row scale.nodes ∷ []) story);
       few = more.few ∙ ap (λ n. n + 1) c.loop-bin.invariant.few;
     }
+
+pub returns-clause-columns : goal.returns-clause-columns
+returns-clause-columns c = grind (arith, common_steps)
+
+pub returns-clause-last : goal.returns-clause-last
+returns-clause-last c = grind (arith, common_steps)
+
+pub returns-clause-few : goal.returns-clause-few
+returns-clause-few c = grind (arith, common_steps)
