@@ -1,8 +1,8 @@
 use Rattle.std.proofs.Common.{arith, ◌≡◌, ◌+◌, suc, [], ◌∷◌, ◌++◌, ap, ◌∙◌, add-one}
+use Rattle.std.proofs.lemmas.Grind.{common_steps}
 use Rattle.drill_picture.specs.Budgets.{budget_told}
 use Rattle.drill_picture.specs.Charts.{columns_below, levels_below}
 use Rattle.drill_picture.specs.Stories.{after_bin, story_behind, story_told}
-use Rattle.std.proofs.lemmas.Grind.{common_steps}
 use Rattle.drill_picture.proofs.column.columns_of.Goals as goal
 
 pub loop-bin-preserved : goal.loop-bin-preserved

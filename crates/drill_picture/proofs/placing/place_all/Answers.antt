@@ -1,6 +1,6 @@
 use Rattle.std.proofs.Common.{arith, ◌∙◌}
-use Rattle.drill_picture.proofs.Growing.{column_more}
 use Rattle.std.proofs.lemmas.Grind.{common_steps}
+use Rattle.drill_picture.proofs.Growing.{column_more}
 use Rattle.drill_picture.proofs.placing.place_all.Goals as goal
 
 pub loop-column-preserved : goal.loop-column-preserved
