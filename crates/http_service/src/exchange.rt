@@ -101,6 +101,7 @@ impl<H, R> ConnectionService<H, R> {
     // Who is asked for the reply, and the permits of which the body needs one. Where there is no memory
     // for these, nobody is.
     fn asked(&self, needs_permit: bool) -> (Option<Permits>, Option<Arc<H>>)
+        ensures needed { IsTrue needs_permit → result.0 ≡ None → result.1 ≡ None }
         ensures permits { IfSome result.0 (λ permits. IfSome permits.waiting CanAcquire) }
         ensures handler { (option_map arc_value result.1 ≡ option_map arc_value self.now.handler)
             ⊎ (result.1 ≡ None) }
