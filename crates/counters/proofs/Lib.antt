@@ -9,3 +9,4 @@ pub mod CounterJoins
 pub mod AllRead
 pub mod BalanceLemmas
 pub mod MovedBalances
+pub mod ShortLemmas

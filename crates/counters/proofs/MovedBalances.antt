@@ -1,10 +1,9 @@
 -- What a move of rights makes of the balances.
-use Rattle.std.specs.Prelude.{◌≡◌, ◌<◌, ◌≤◌, ◌==◌, ◌+◌, ◌-◌, ◌^◌, ℕ, zero, suc, List, length, get_or, slice_set, ℤ, pos, ◌+ℤ◌, ◌-ℤ◌, ◌≤ℤ◌}
+use Rattle.std.specs.Prelude.{◌≡◌, ◌<◌, ◌≤◌, ◌==◌, ◌+◌, ◌-◌, ◌^◌, ℕ, zero, suc, List, length, get_or, ℤ, pos, ◌+ℤ◌, ◌≤ℤ◌}
 use Rattle.std.proofs.Common.{ap, arith, cond, subst, sym, ◌∙◌, ⊎_elim}
-use Rattle.std.proofs.Math.ListN.{length-set}
 use Rattle.std.proofs.lemmas.Bool.{cases_eq, cases_lt}
 use Rattle.std.proofs.lemmas.Int.{ints}
-use Rattle.std.proofs.lemmas.List.{get_or-set_same, get_or-set_other, get_or_past}
+use Rattle.std.proofs.lemmas.List.{get_or_past}
 use Rattle.counters.specs.Sums.{node_numbers, sum_below, AreWithin}
 use Rattle.counters.specs.Cells.{Rows, Shares, balance_of, came_to, row_cell, spent_cell, went_from, WritesRowCell}
 use Rattle.counters.specs.Balances.{AreBalances, MovesBetween, comes_to, goes_from}
@@ -12,94 +11,8 @@ use Rattle.counters.proofs.BalanceLemmas.{moved-settled}
 use Rattle.counters.proofs.CellLemmas.{below-numbers, chosen-other, chosen-same}
 use Rattle.counters.proofs.SumLemmas.{sum-same}
 
--- ---- in the row of balances
-
--- from one node to another
-pub moved-apart : (from to amount : ℕ) (old : List ℤ) (less more : ℤ) → (from ≡ to → ⊥) → from < length old →
-    to < length old → less ≡ get_or old from (pos 0) -ℤ pos amount →
-    more ≡ get_or (slice_set old from less) to (pos 0) +ℤ pos amount →
-    MovesBetween from to amount old (slice_set (slice_set old from less) to more)
-moved-apart from to amount old less more ne has_from has_to is_less is_more =
-    let first = slice_set old from less in
-    let long = length-set old from less in
-    let longer = length-set first to more in
-    let kept = get_or-set_other old from to less (pos 0) (λ e. ne (sym e)) in
-    record {
-      len = omega arith;
-      each = λ node low.
-          let gone = chosen-other from to 0 (cond (node == from) amount 0) ne in
-          ⊎_elim
-          (λ same.
-          let comes = chosen-same node to amount 0 same in
-          let goes = chosen-other node from amount 0 (λ e. ne (sym e ∙ same)) in
-          let has : to < length first = omega arith in
-          let there = ap (λ n. get_or (slice_set first to more) n (pos 0)) same
-          ∙ get_or-set_same first to more (pos 0) has in
-          let was = ap (λ n. get_or old n (pos 0)) same in
-          omega (arith, ints))
-          (λ other.
-          let comes = chosen-other node to amount 0 other in
-          let stays = get_or-set_other first to node more (pos 0) other in
-          ⊎_elim
-          (λ own.
-          let goes = chosen-same node from amount 0 own in
-          let here = ap (λ n. get_or first n (pos 0)) own ∙ get_or-set_same old from less (pos 0) has_from in
-          let was = ap (λ n. get_or old n (pos 0)) own in
-          omega (arith, ints))
-          (λ else.
-          let goes = chosen-other node from amount 0 else in
-          let here = get_or-set_other old from node less (pos 0) else in
-          omega (arith, ints))
-          (cases_eq node from))
-          (cases_eq node to);
-    }
-
--- a grant
-pub granted-own : (from to amount : ℕ) (old : List ℤ) (more : ℤ) → from ≡ to → to < length old →
-    more ≡ get_or old to (pos 0) +ℤ pos amount → MovesBetween from to amount old (slice_set old to more)
-granted-own from to amount old more same has is_more =
-    let long = length-set old to more in
-    record {
-      len = omega arith;
-      each = λ node low.
-          let none = chosen-same from to 0 (cond (node == from) amount 0) same in
-          ⊎_elim
-          (λ own.
-          let comes = chosen-same node to amount 0 own in
-          let there = ap (λ n. get_or (slice_set old to more) n (pos 0)) own ∙ get_or-set_same old to more (pos 0) has in
-          let was = ap (λ n. get_or old n (pos 0)) own in
-          omega (arith, ints))
-          (λ other.
-          let comes = chosen-other node to amount 0 other in
-          let stays = get_or-set_other old to node more (pos 0) other in
-          omega (arith, ints))
-          (cases_eq node to);
-    }
-
--- the same where places and values are read first
-pub moved-at : (from to amount : ℕ) (old first : List ℤ) (f t : ℕ) (less more : ℤ) → (from ≡ to → ⊥) →
-    from < length old → to < length old → f ≡ from → t ≡ to → first ≡ slice_set old f less →
-    less ≡ get_or old f (pos 0) -ℤ pos amount → more ≡ get_or first t (pos 0) +ℤ pos amount →
-    MovesBetween from to amount old (slice_set first t more)
-moved-at from to amount old first f t less more ne has_from has_to is_f is_t is_first is_less is_more =
-    subst (λ (a : ℕ). MovesBetween a to amount old (slice_set first t more)) is_f
-    (subst (λ (b : ℕ). MovesBetween f b amount old (slice_set first t more)) is_t
-    (subst (λ (l : List ℤ). MovesBetween f t amount old (slice_set l t more)) (sym is_first)
-    (moved-apart f t amount old less more (λ e. ne (sym is_f ∙ e ∙ is_t)) (omega (arith, has_from, is_f))
-    (omega (arith, has_to, is_t)) is_less (is_more ∙ ap (λ (l : List ℤ). get_or l t (pos 0) +ℤ pos amount) is_first))))
-
-pub granted-at : (from to amount : ℕ) (old first : List ℤ) (t : ℕ) (more : ℤ) → from ≡ to → to < length old → t ≡ to →
-    first ≡ old → more ≡ get_or first t (pos 0) +ℤ pos amount → MovesBetween from to amount old (slice_set first t more)
-granted-at from to amount old first t more same has is_t is_first is_more =
-    subst (λ (b : ℕ). MovesBetween from b amount old (slice_set first t more)) is_t
-    (subst (λ (l : List ℤ). MovesBetween from t amount old (slice_set l t more)) (sym is_first)
-    (granted-own from t amount old more (same ∙ sym is_t) (omega (arith, has, is_t))
-    (is_more ∙ ap (λ (l : List ℤ). get_or l t (pos 0) +ℤ pos amount) is_first)))
-
--- ---- in the sums of the cells
-
 -- a sum of which one place changed
-sum-but-one : (n k : ℕ) (f g : ℕ → ℕ) → k < n → ((i : ℕ) → (i ≡ k → ⊥) → g i ≡ f i) →
+pub sum-but-one : (n k : ℕ) (f g : ℕ → ℕ) → k < n → ((i : ℕ) → (i ≡ k → ⊥) → g i ≡ f i) →
     sum_below n g + f k ≡ sum_below n f + g k
 sum-but-one zero k f g low h = absurd (omega arith)
 sum-but-one (suc n) k f g low h = ⊎_elim

@@ -9,9 +9,9 @@ ghost use Rattle.counters.specs.Cells.{no_shares, spent_cell, moved_cell, grante
 ghost use Rattle.counters.specs.Cells.{WritesSpent, WritesMoved};
 ghost use Rattle.counters.specs.Refusals.{spend_refusal, shift_refusal, grant_refusal, too_great, IsRefusal};
 
-use crate::cells::{number_in_row, number_of, total, total_of_own, write_numbers};
+use crate::cells::{SpentAndMoved, number_in_row, number_of, total, total_of_own, write_numbers};
 use crate::fault::CounterFault;
-use crate::ledger::{Ledger, SpentAndMoved};
+use crate::ledger::Ledger;
 use lattice_laws::Join;
 use std::alloc::{AllocError, Global};
 use std::marker::Model;
@@ -75,8 +75,9 @@ impl Budget {
     }
 
     /// Whether each of the first nodes has a right, of as many as there are places. Where one has none,
-    /// the rights of all are written in the places, as `rights_of_all` writes them. It reads as far as
-    /// the first that is short.
+    /// the rights of all are written in the places, as `rights_of_all` writes them. How many balances
+    /// are short is kept, so it looks at two numbers where as many nodes have a balance, and else at
+    /// the balance of each.
     pub fn all_have_rights(&self, setter: u8, count: u64, into: &mut [i128]) -> bool
         requires { length into.old ≤ 256 }
         ensures len { length into.new ≡ length into.old }
@@ -85,13 +86,11 @@ impl Budget {
         ensures rights { result ≡ false → into.new
             ≡ map (rights (budget_of self.now setter count)) (range_with_len 0 (length into.old)) }
     {
-        for node in 0..into.len() {
-            if self.rights(setter, count, node as u8) <= 0 {
-                self.rights_of_all(setter, count, into);
-                return false;
-            }
+        let all = self.have_rights(setter, count, into.len());
+        if !all {
+            self.rights_of_all(setter, count, into);
         }
-        true
+        all
     }
 
     /// What a node spent.
@@ -253,6 +252,23 @@ impl Budget {
         ensures absent { OnErr result (granted_cell self.old node ≡ 0) }
     {
         self.raise_moved(alloc, node, node, total)
+    }
+
+    // Whether each of the first nodes has a right, of so many.
+    fn have_rights(&self, setter: u8, count: u64, nodes: usize) -> bool
+        requires { nodes ≤ 256 }
+        ensures { IsTrue result
+            ↔ AllHaveRights (rights (budget_of self.now setter count)) nodes }
+    {
+        self.setter_has(setter, count, nodes) && self.ledger.others_have(setter, nodes)
+    }
+
+    // Whether the node that had the whole count has a right, where it is one of the first, so many.
+    fn setter_has(&self, setter: u8, count: u64, nodes: usize) -> bool
+        ensures { IsTrue result
+            ↔ (setter < nodes → pos 0 <ℤ rights (budget_of self.now setter count) setter) }
+    {
+        nodes <= usize::from(setter) || self.rights(setter, count, setter) > 0
     }
 
     // What the node will have spent, or the refusal.

@@ -8,7 +8,7 @@ ghost use Rattle.counters.specs.Cells.{cell, row_cell, came_to, went_from, Write
 ghost use Rattle.counters.specs.Refusals.{hit_refusal, IsRefusal};
 
 use crate::fault::CounterFault;
-use lattice_laws::{MapOf, Numbers};
+use lattice_laws::{MapOf, Numbers, PairOf};
 use std::alloc::{AllocError, Global};
 
 /// A number for each node.
@@ -16,6 +16,9 @@ pub(crate) type Cells = Numbers;
 
 /// For each node a number for each node.
 pub(crate) type Rows = MapOf<u8, Cells>;
+
+/// What each node spent, and what each moved to each other and, at its own place, granted.
+pub(crate) type SpentAndMoved = PairOf<Cells, Rows>;
 
 /// The number of a node.
 #[tactic(auto, unfolding(crate::specs::Cells::cell))]

@@ -1,22 +1,18 @@
 //! What the nodes spent and moved, beside the balance of each.
 
-ghost use Rattle.std.specs.Prelude.{◌≡◌, ◌≤◌, ◌<◌, ◌+◌, ◌^◌, ◌≤ℤ◌, ◌+ℤ◌, ℕ, length, map, max, pos, get_or};
-ghost use Rattle.std.specs.Prelude.{IfOk, OnOk, OnErr};
+ghost use Rattle.std.specs.Prelude.{◌≡◌, ◌^◌, ◌≤ℤ◌, ◌+ℤ◌, ◌↔◌, ℕ, length, map, max, pos};
+ghost use Rattle.std.specs.Prelude.{OnOk, OnErr, IsTrue};
 ghost use Rattle.std.specs.List.{range_with_len};
 ghost use Rattle.counters.specs.Sums.{AreWithin};
 ghost use Rattle.counters.specs.Cells.{no_shares, spent_cell, moved_cell, balance_of};
 ghost use Rattle.counters.specs.Cells.{WritesSpent, WritesMoved};
-ghost use Rattle.counters.specs.Balances.{AreReadFrom, IsLonger, MovesBetween};
+ghost use Rattle.counters.specs.Balances.{OthersHave};
 
-use crate::cells::{
-    Cells, Rows, add_rows, number_in_row, number_of, raise, raise_row, write_negated,
-};
+use crate::balances::Balances;
+use crate::cells::{Cells, Rows, SpentAndMoved, number_in_row, number_of, raise, raise_row};
 use lattice_laws::{Join, PairOf};
 use std::alloc::{AllocError, Global};
 use std::marker::Model;
-
-/// What each node spent, and what each moved to each other and, at its own place, granted.
-pub(crate) type SpentAndMoved = PairOf<Cells, Rows>;
 
 /// What the nodes spent and moved, beside the balance of each: what came to it, its grants among it,
 /// less what it moved to others and what it spent. So the rights of a node are read at one place,
@@ -24,7 +20,7 @@ pub(crate) type SpentAndMoved = PairOf<Cells, Rows>;
 #[derive(Debug, Drop)]
 pub struct Ledger {
     shares: SpentAndMoved,
-    balances: Vec<i128>,
+    balances: Balances,
 }
 
 impl Model for Ledger {
@@ -35,57 +31,7 @@ impl Model for Ledger {
 
     ghost view = { λ l. l.shares };
 
-    ghost invariant = { λ l. AreBalances l.shares l.balances.items };
-}
-
-// Has a place for the balance of a node. Memory is asked for only where there is none.
-fn make_place(balances: &mut Vec<i128>, node: u8) -> Result<(), AllocError>
-    ensures ok { OnOk result (node < length balances.new.items) }
-    ensures len { OnOk result (length balances.new.items
-        ≡ max (length balances.old.items) (node + 1)) }
-    ensures longer { IsLonger balances.old.items balances.new.items }
-    ensures few { length balances.old.items ≤ 256 → length balances.new.items ≤ 256 }
-    ensures absent { OnErr result (length balances.old.items ≤ node) }
-{
-    let place = usize::from(node);
-    if balances.len() <= place {
-        balances.resize(place + 1, 0)?;
-    }
-    Ok(())
-}
-
-// Writes the balance of each node that there is a place for.
-fn write_by_rows(shares: &SpentAndMoved, balances: &mut [i128])
-    requires { length balances.old ≤ 256 }
-    ensures len { length balances.new ≡ length balances.old }
-    ensures read { AreReadFrom shares.now balances.new }
-    ensures small { AreWithin (2 ^ 100) balances.new }
-{
-    write_negated(&shares.first, balances);
-    add_rows(&shares.second, balances);
-}
-
-// The same of balances that are kept.
-fn settle(shares: &SpentAndMoved, balances: &mut Vec<i128>)
-    requires { length balances.old.items ≤ 256 }
-    ensures len { length balances.new.items ≡ length balances.old.items }
-    ensures read { AreReadFrom shares.now balances.new.items }
-    ensures small { AreWithin (2 ^ 100) balances.new.items }
-{
-    write_by_rows(shares, balances);
-}
-
-// The balances of the first nodes, so many.
-fn settled(alloc: Global, shares: &SpentAndMoved, nodes: usize) -> Result<Vec<i128>, AllocError>
-    requires { nodes ≤ 256 }
-    ensures len { IfOk result (λ balances. length balances.items ≡ nodes) }
-    ensures read { IfOk result (λ balances. AreReadFrom shares.now balances.items) }
-    ensures small { IfOk result (λ balances. AreWithin (2 ^ 100) balances.items) }
-{
-    let mut balances = Vec::new(alloc);
-    balances.resize(nodes, 0)?;
-    settle(shares, &mut balances);
-    Ok(balances)
+    ghost invariant = { λ l. AreBalances l.shares l.balances };
 }
 
 // No balance is further from 0 than this: that each number has 64 bits comes with the answer, which
@@ -95,30 +41,6 @@ fn are_small(shares: &SpentAndMoved)
         × (balance_of shares.now node ≤ℤ pos (2 ^ 100)) }
 {
     let _ = shares.is_bottom();
-}
-
-// Takes so much from the balance of a node and adds it to another's. A node that grants itself rights
-// has nothing taken.
-fn move_between(balances: &mut [i128], from: u8, to: u8, amount: u64)
-    requires inside { (from < length balances.old) × (to < length balances.old) }
-    requires small { AreWithin (2 ^ 100) balances.old }
-    ensures { MovesBetween from to amount balances.old balances.new }
-{
-    if from != to {
-        balances[usize::from(from)] -= i128::from(amount);
-    }
-    balances[usize::from(to)] += i128::from(amount);
-}
-
-// Copies the balance of each node that there is a place for, 0 where there is none.
-fn copy_balances(balances: &[i128], into: &mut [i128])
-    ensures { into.new ≡ map (λ node. get_or balances.now node (pos 0))
-        (range_with_len 0 (length into.old)) }
-{
-    into.fill(0);
-    for place in 0..into.len().min(balances.len()) {
-        into[place] = balances[place];
-    }
 }
 
 impl Ledger {
@@ -131,7 +53,7 @@ impl Ledger {
                 first: Cells::new(alloc),
                 second: Rows::new(alloc),
             },
-            balances: Vec::new(alloc),
+            balances: Balances::new(alloc),
         }
     }
 
@@ -154,7 +76,7 @@ impl Ledger {
         ensures balance { result ≡ balance_of self.now node }
         ensures small { (pos 0 ≤ℤ (result +ℤ pos (2 ^ 100))) × (result ≤ℤ pos (2 ^ 100)) }
     {
-        self.balances.get(usize::from(node)).copied().unwrap_or(0)
+        self.balances.at(usize::from(node))
     }
 
     /// The balances of the first nodes, of as many as there are places.
@@ -163,7 +85,14 @@ impl Ledger {
             ≡ map (balance_of self.now) (range_with_len 0 (length into.old)) }
         ensures small { AreWithin (2 ^ 100) into.new }
     {
-        copy_balances(&self.balances, into);
+        self.balances.write_to(into);
+    }
+
+    /// Whether each of the first nodes but this one has a balance of 1 at least, of so many.
+    pub(crate) fn others_have(&self, one: u8, nodes: usize) -> bool
+        ensures { IsTrue result ↔ OthersHave (balance_of self.now) one nodes }
+    {
+        self.balances.others_have(one, nodes)
     }
 
     /// Raises what a node spent to at least this number. Memory is asked for only where it spent
@@ -178,10 +107,10 @@ impl Ledger {
         if spent <= before {
             return Ok(());
         }
-        make_place(&mut self.balances, node)?;
+        self.balances.make_place(node)?;
         raise(&mut self.shares.first, node, spent)?;
         are_small(&self.shares);
-        self.balances[usize::from(node)] -= i128::from(spent - before);
+        self.balances.take(node, spent - before);
         Ok(())
     }
 
@@ -203,11 +132,11 @@ impl Ledger {
         if total <= before {
             return Ok(());
         }
-        make_place(&mut self.balances, from)?;
-        make_place(&mut self.balances, to)?;
+        self.balances.make_place(from)?;
+        self.balances.make_place(to)?;
         raise_row(&mut self.shares.second, alloc, from, to, total)?;
         are_small(&self.shares);
-        move_between(&mut self.balances, from, to, total - before);
+        self.balances.move_between(from, to, total - before);
         Ok(())
     }
 }
@@ -229,7 +158,7 @@ impl Join for Ledger {
     fn joined(&self, alloc: Global, other: &Self) -> Result<Self, AllocError> {
         let shares = self.shares.joined(alloc, &other.shares)?;
         let nodes = self.balances.len().max(other.balances.len());
-        let balances = settled(alloc, &shares, nodes)?;
+        let balances = Balances::settled(alloc, &shares, nodes)?;
         Ok(Ledger { shares, balances })
     }
 
@@ -243,7 +172,7 @@ impl Join for Ledger {
 
     fn copied(&self, alloc: Global) -> Result<Self, AllocError> {
         let shares = self.shares.copied(alloc)?;
-        let balances = settled(alloc, &shares, self.balances.len())?;
+        let balances = Balances::settled(alloc, &shares, self.balances.len())?;
         Ok(Ledger { shares, balances })
     }
 
@@ -253,7 +182,7 @@ impl Join for Ledger {
         if self.balances.len() < balances.len() {
             self.balances = balances;
         }
-        settle(&self.shares, &mut self.balances);
+        self.balances.settle(&self.shares);
         Ok(())
     }
 }

@@ -4,6 +4,7 @@
 //! it sees as its own.
 #![tactic(auto)]
 
+mod balances;
 mod budget;
 mod cells;
 mod fault;

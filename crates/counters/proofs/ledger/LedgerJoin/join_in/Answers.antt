@@ -11,7 +11,7 @@ pub invariant_of-self-2 : goal.invariant_of-self-2
 invariant_of-self-2 c =
     let l = c.self.inside in
     let o = c.other.inside in
-    let made = c.settle.new.balances.items in
+    let made = c.settle.new.self in
     let len = c.settle.ensures.len in
     let few = c.self.invariant.few in
     let few_other = c.other.invariant.few in
@@ -19,17 +19,17 @@ invariant_of-self-2 c =
     elim c.if-len.branch [
       | then-len w ↦
           let shares = ap (λ (i : _). i.shares) w.self-inside-is in
-          let items = ap (λ (i : _). length i.balances.items) w.self-inside-is in
+          let items = ap (λ (i : _). length i.balances) w.self-inside-is in
           subst (λ (s : Shares). AreBalances s made) (sym shares)
-          (joined-settled l.shares o.shares c.join_in.new.self l.balances.items o.balances.items made c.self.invariant
+          (joined-settled l.shares o.shares c.join_in.new.self l.balances o.balances made c.self.invariant
           c.other.invariant join (omega (arith, len, items, w.if-len.true, c.len.ensures, c.len-2.ensures))
           (omega (arith, len, items)) (omega (arith, len, items, few_other))
           (subst (λ (s : Shares). AreReadFrom s made) shares c.settle.ensures.read) c.settle.ensures.small)
       | else-len w ↦
           let shares = ap (λ (i : _). i.shares) w.self-inside-is in
-          let items = ap (λ (i : _). length i.balances.items) w.self-inside-is in
+          let items = ap (λ (i : _). length i.balances) w.self-inside-is in
           subst (λ (s : Shares). AreBalances s made) (sym shares)
-          (joined-settled l.shares o.shares c.join_in.new.self l.balances.items o.balances.items made c.self.invariant
+          (joined-settled l.shares o.shares c.join_in.new.self l.balances o.balances made c.self.invariant
           c.other.invariant join (omega (arith, len, items))
           (omega (arith, len, items, w.if-len.false, c.len.ensures, c.len-2.ensures)) (omega (arith, len, items, few))
           (subst (λ (s : Shares). AreReadFrom s made) shares c.settle.ensures.read) c.settle.ensures.small)

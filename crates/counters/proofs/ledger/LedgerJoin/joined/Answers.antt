@@ -8,14 +8,14 @@ pub invariant_of-result : goal.invariant_of-result
 invariant_of-result c =
     let l = c.self.inside in
     let o = c.other.inside in
-    let made = c.in_ok-balances.balances.items in
+    let made = c.in_ok-balances.balances in
     let len = c.in_ok-balances.ensures.len in
     let few = c.self.invariant.few in
     let few_other = c.other.invariant.few in
-    let long : length l.balances.items ≤ length made = omega (arith, len, c.max-nodes.ensures, c.len.ensures, c.len-2.ensures) in
-    let long_other : length o.balances.items ≤ length made =
+    let long : length l.balances ≤ length made = omega (arith, len, c.max-nodes.ensures, c.len.ensures, c.len-2.ensures) in
+    let long_other : length o.balances ≤ length made =
     omega (arith, len, c.max-nodes.ensures, c.len.ensures, c.len-2.ensures) in
-    joined-settled l.shares o.shares c.in_ok-shares.shares l.balances.items o.balances.items made c.self.invariant c.other.invariant
+    joined-settled l.shares o.shares c.in_ok-shares.shares l.balances o.balances made c.self.invariant c.other.invariant
     (shares_join l.shares o.shares c.in_ok-shares.shares c.in_ok-shares.ensures) long long_other
     (omega (arith, len, few, few_other, c.max-nodes.ensures, c.len.ensures, c.len-2.ensures))
     c.in_ok-balances.ensures.read c.in_ok-balances.ensures.small

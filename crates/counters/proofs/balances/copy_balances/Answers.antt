@@ -3,7 +3,7 @@ use Rattle.std.proofs.Common.{arith, sym, ◌∙◌, ⊎_elim}
 use Rattle.std.proofs.lemmas.Bool.{cases_lt}
 use Rattle.std.proofs.lemmas.List.{get_or_past}
 use Rattle.std.proofs.lemmas.List.FromFn.{fill_by_all}
-use Rattle.counters.proofs.ledger.copy_balances.Goals as goal
+use Rattle.counters.proofs.balances.copy_balances.Goals as goal
 
 pub returns : goal.returns
 returns c =

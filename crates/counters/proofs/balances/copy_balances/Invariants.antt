@@ -1,5 +1,5 @@
 use Rattle.std.proofs.Common.{◌≡◌, ◌<◌, ◌≤◌, ℕ, length, get_or, pos}
-use Rattle.counters.proofs.ledger.copy_balances.Given as goal
+use Rattle.counters.proofs.balances.copy_balances.Given as goal
 
 abbrev pub invariant-loop-place : goal.invariant-loop-place
 invariant-loop-place l =

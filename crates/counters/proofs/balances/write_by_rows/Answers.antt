@@ -3,7 +3,7 @@ use Rattle.std.proofs.Common.{arith}
 use Rattle.std.proofs.lemmas.Int.{ints}
 use Rattle.counters.specs.Cells.{cell}
 use Rattle.counters.proofs.Columns.{negated-read}
-use Rattle.counters.proofs.ledger.write_by_rows.Goals as goal
+use Rattle.counters.proofs.balances.write_by_rows.Goals as goal
 
 pub returns-clause-read : goal.returns-clause-read
 returns-clause-read c = λ node low.

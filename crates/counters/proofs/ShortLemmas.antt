@@ -1,0 +1,138 @@
+-- How many balances are short, after each change of them.
+use Rattle.std.specs.Prelude.{◌≡◌, ◌≢◌, ◌<◌, ◌≤◌, ◌+◌, ◌-◌, ◌==◌, ℕ, zero, suc, Bool, true, false, cond, List, length, get_or, slice_set, int_le, ℤ, pos, ◌≤ℤ◌, ◌<ℤ◌}
+use Rattle.std.proofs.Common.{ap, arith, refl, sym, ◌∙◌, ⊎_elim}
+use Rattle.std.proofs.Math.ListN.{length-set}
+use Rattle.std.proofs.lemmas.Bool.{cases_eq}
+use Rattle.std.proofs.lemmas.Int.{ints}
+use Rattle.std.proofs.lemmas.List.{get_or-set_same, get_or-set_other, get_or_past}
+use Rattle.counters.specs.Sums.{sum_below, sum_others}
+use Rattle.counters.specs.Balances.{IsLonger, OthersHave, one_if_short, short_at, short_of}
+use Rattle.counters.proofs.CellLemmas.{chosen-other, chosen-same}
+use Rattle.counters.proofs.MovedBalances.{sum-but-one}
+use Rattle.counters.proofs.SumLemmas.{sum-same, sum-zero, sum_others-and}
+
+-- ---- one balance
+
+abbrev one_if : Bool → ℕ
+one_if short = cond short 1 0
+
+-- a balance is short, or isn't
+pub by-short : {P : Type 0} (balance : ℤ) → (balance ≤ℤ pos 0 → one_if_short balance ≡ 1 → P) →
+    (pos 0 <ℤ balance → one_if_short balance ≡ 0 → P) → P
+by-short {P} balance less more = by (int_le balance (pos 0)) refl
+  where
+    by : (t : Bool) → int_le balance (pos 0) ≡ t → P
+    by true e = less (omega (arith, ints)) (ap one_if e)
+    by false e = more (omega (arith, ints)) (ap one_if e)
+
+pub short-one : (balances : List ℤ) (node : ℕ) → short_at balances node ≤ 1
+short-one balances node = by-short (get_or balances node (pos 0)) (λ _ one. omega (arith, one)) (λ _ none. omega (arith, none))
+
+pub short-no_more : (balances : List ℤ) (node : ℕ) → short_at balances node ≡ 0 → pos 0 <ℤ get_or balances node (pos 0)
+short-no_more balances node none = by-short (get_or balances node (pos 0)) (λ _ one. absurd (omega (arith, one, none)))
+    (λ more _. more)
+
+pub short-none : (balances : List ℤ) (node : ℕ) → pos 0 <ℤ get_or balances node (pos 0) → short_at balances node ≡ 0
+short-none balances node more = by-short (get_or balances node (pos 0)) (λ less _. absurd (omega (arith, ints, more, less)))
+    (λ _ none. none)
+
+-- a node without a place has 0
+pub short-past : (balances : List ℤ) (node : ℕ) → length balances ≤ node → short_at balances node ≡ 1
+short-past balances node past =
+    let none = get_or_past balances node (pos 0) past in
+    by-short (get_or balances node (pos 0)) (λ _ one. one) (λ more _. absurd (omega (arith, ints, more, none)))
+
+-- ---- sums of ones
+
+pub sum-few : (n : ℕ) (f : ℕ → ℕ) → ((i : ℕ) → f i ≤ 1) → sum_below n f ≤ n
+sum-few zero f h = omega arith
+sum-few (suc n) f h =
+    let rest = sum-few n f h in
+    let here = h n in
+    omega arith
+
+-- ones behind are as many as there are
+sum-ones : (n k : ℕ) (f g : ℕ → ℕ) → n ≤ k → ((i : ℕ) → g i ≡ f i) → ((i : ℕ) → n ≤ i → g i ≡ 1) →
+    sum_below k g ≡ sum_below n f + (k - n)
+sum-ones n zero f g long same ones =
+    let none : n ≡ 0 = omega arith in
+    let sum = ap (λ m. sum_below m f) none in
+    omega (arith, sum, none)
+sum-ones n (suc k) f g long same ones = ⊎_elim
+    (λ e.
+    let sum = ap (λ m. sum_below m f) e in
+    let all = sum-same (suc k) g f (λ i l. same i) in
+    omega (arith, sum, all, e))
+    (λ ne.
+    let rest = sum-ones n k f g (omega (arith, long, ne)) same ones in
+    let here = ones k (omega (arith, long, ne)) in
+    omega (arith, rest, here, long, ne))
+    (cases_eq n (suc k))
+
+-- a sum of which one place is left out
+others-none : (n i : ℕ) (f : ℕ → ℕ) → sum_others n i f ≡ 0 → (j : ℕ) → j < n → j ≢ i → f j ≡ 0
+others-none zero i f none j low ne = absurd (omega (arith, low))
+others-none (suc n) i f none j low ne =
+    let rest : sum_others n i f ≡ 0 = omega (arith, none) in
+    let last : cond (n == i) 0 (f n) ≡ 0 = omega (arith, none) in
+    ⊎_elim
+    (λ e.
+    let here = chosen-other j i 0 (f j) ne in
+    let at = ap (λ k. cond (k == i) 0 (f k)) e in
+    omega (arith, last, here, at))
+    (λ other. others-none n i f rest j (omega (arith, low, other)) ne)
+    (cases_eq j n)
+
+others-all : (n i : ℕ) (f : ℕ → ℕ) → ((j : ℕ) → j < n → j ≢ i → f j ≡ 0) → sum_others n i f ≡ 0
+others-all n i f h = sum-same n _ (λ j. 0) (λ j low. ⊎_elim (λ e. chosen-same j i 0 (f j) e)
+    (λ ne. chosen-other j i 0 (f j) ne ∙ h j low ne) (cases_eq j i)) ∙ sum-zero n (λ j. 0) (λ j. refl)
+
+-- one without a place leaves nothing out
+others-past : (n i : ℕ) (f : ℕ → ℕ) → n ≤ i → sum_others n i f ≡ sum_below n f
+others-past n i f past = sum-same n _ f (λ j low. chosen-other j i 0 (f j) (λ e. omega (arith, e, low, past)))
+
+-- ---- all balances
+
+pub short-few : (balances : List ℤ) → short_of balances ≤ length balances
+short-few balances = sum-few (length balances) (short_at balances) (short-one balances)
+
+-- one balance is written
+pub short-set : (balances : List ℤ) (place : ℕ) (x : ℤ) → place < length balances →
+    short_of (slice_set balances place x) + short_at balances place ≡ short_of balances + one_if_short x
+short-set balances place x inside =
+    let new = slice_set balances place x in
+    let len = length-set balances place x in
+    let sums = sum-but-one (length balances) place (short_at balances) (short_at new) inside
+    (λ i ne. ap one_if_short (get_or-set_other balances place i x (pos 0) ne)) in
+    let here = ap one_if_short (get_or-set_same balances place x (pos 0) inside) in
+    let all = ap (λ n. sum_below n (short_at new)) len in
+    omega (arith, sums, here, all)
+
+-- zeros are behind
+pub short-longer : (old new : List ℤ) → IsLonger old new → short_of new ≡ short_of old + (length new - length old)
+short-longer old new longer =
+    let same : (i : ℕ) → short_at new i ≡ short_at old i = λ i. ap one_if_short (longer.each i) in
+    sum-ones (length old) (length new) (short_at old) (short_at new) longer.len same
+    (λ i past. same i ∙ short-past old i past)
+
+-- those of the others, by what is counted of all
+pub short-others : (balances : List ℤ) (one others : ℕ) → one < length balances →
+    others + short_at balances one ≡ short_of balances → others ≡ sum_others (length balances) one (short_at balances)
+short-others balances one others inside is =
+    let split = sum_others-and (length balances) one (short_at balances) inside in
+    omega (arith, split, is)
+
+pub short-others_past : (balances : List ℤ) (one : ℕ) → length balances ≤ one →
+    short_of balances ≡ sum_others (length balances) one (short_at balances)
+short-others_past balances one past = sym (others-past (length balances) one (short_at balances) past)
+
+-- none of the others is short where each has some
+pub others-have : (balances : List ℤ) (one : ℕ) → sum_others (length balances) one (short_at balances) ≡ 0 →
+    OthersHave (λ node. get_or balances node (pos 0)) one (length balances)
+others-have balances one none node low ne = short-no_more balances node
+    (others-none (length balances) one (short_at balances) none node low ne)
+
+pub others-lack : (balances : List ℤ) (one : ℕ) → OthersHave (λ node. get_or balances node (pos 0)) one (length balances) →
+    sum_others (length balances) one (short_at balances) ≡ 0
+others-lack balances one have = others-all (length balances) one (short_at balances)
+    (λ node low ne. short-none balances node (have node low ne))
