@@ -1,12 +1,12 @@
 -- How many balances are short, after each change of them.
 use Rattle.std.specs.Prelude.{◌≡◌, ◌≢◌, ◌<◌, ◌≤◌, ◌+◌, ◌-◌, ◌==◌, ℕ, zero, suc, Bool, true, false, cond, List, length, get_or, slice_set, int_le, ℤ, pos, ◌≤ℤ◌, ◌<ℤ◌}
-use Rattle.std.proofs.Common.{ap, arith, refl, sym, ◌∙◌, ⊎_elim}
+use Rattle.std.proofs.Common.{ap, arith, refl, ◌∙◌, ⊎_elim}
 use Rattle.std.proofs.Math.ListN.{length-set}
-use Rattle.std.proofs.lemmas.Bool.{cases_eq}
+use Rattle.std.proofs.lemmas.Bool.{cases_eq, cases_lt}
 use Rattle.std.proofs.lemmas.Int.{ints}
 use Rattle.std.proofs.lemmas.List.{get_or-set_same, get_or-set_other, get_or_past}
 use Rattle.counters.specs.Sums.{sum_below, sum_others}
-use Rattle.counters.specs.Balances.{IsLonger, OthersHave, one_if_short, short_at, short_of}
+use Rattle.counters.specs.Balances.{AreCounted, IsLonger, IsShortAt, OthersHave, one_if_short, short_at, short_of}
 use Rattle.counters.proofs.CellLemmas.{chosen-other, chosen-same}
 use Rattle.counters.proofs.MovedBalances.{sum-but-one}
 use Rattle.counters.proofs.SumLemmas.{sum-same, sum-zero, sum_others-and}
@@ -115,24 +115,103 @@ short-longer old new longer =
     sum-ones (length old) (length new) (short_at old) (short_at new) longer.len same
     (λ i past. same i ∙ short-past old i past)
 
--- those of the others, by what is counted of all
-pub short-others : (balances : List ℤ) (one others : ℕ) → one < length balances →
-    others + short_at balances one ≡ short_of balances → others ≡ sum_others (length balances) one (short_at balances)
-short-others balances one others inside is =
-    let split = sum_others-and (length balances) one (short_at balances) inside in
-    omega (arith, split, is)
+-- ---- what is counted after a change
 
-pub short-others_past : (balances : List ℤ) (one : ℕ) → length balances ≤ one →
-    short_of balances ≡ sum_others (length balances) one (short_at balances)
-short-others_past balances one past = sym (others-past (length balances) one (short_at balances) past)
+-- a balance that is short is written
+pub short-written : (items : List ℤ) (number ones place : ℕ) (x : ℤ) → length items ≤ 256 → place < length items →
+    number ≡ short_of items → ones ≡ short_at items place → x ≤ℤ pos 0 →
+    AreCounted (number - ones + 1) place x (slice_set items place x)
+short-written items number ones place x few inside counted here low =
+    let len = length-set items place x in
+    let held = short-set items place (pos 1) inside in
+    let set = short-set items place x inside in
+    let one : one_if_short x ≡ 1 = by-short x (λ _ is. is) (λ more _. absurd (omega (arith, ints, more, low))) in
+    record {
+      few = omega (arith, few, len);
+      counted = omega (arith, here, counted, held, set, one);
+      one = λ _. record {
+        inside = omega (arith, inside, len);
+        read = get_or-set_same items place x (pos 0) inside;
+        short = low;
+      };
+    }
 
--- none of the others is short where each has some
-pub others-have : (balances : List ℤ) (one : ℕ) → sum_others (length balances) one (short_at balances) ≡ 0 →
-    OthersHave (λ node. get_or balances node (pos 0)) one (length balances)
-others-have balances one none node low ne = short-no_more balances node
-    (others-none (length balances) one (short_at balances) none node low ne)
+-- one that isn't is written, and another one is known
+pub more-written : (items : List ℤ) (number ones place known : ℕ) (balance x : ℤ) → length items ≤ 256 →
+    place < length items → number ≡ short_of items → ones ≡ short_at items place → pos 0 <ℤ x →
+    (0 < number → IsShortAt known balance items) → (0 < number - ones → known ≢ place) →
+    AreCounted (number - ones) known balance (slice_set items place x)
+more-written items number ones place known balance x few inside counted here more one other =
+    let len = length-set items place x in
+    let set = short-set items place x inside in
+    let none : one_if_short x ≡ 0 = by-short x (λ low _. absurd (omega (arith, ints, more, low))) (λ _ is. is) in
+    record {
+      few = omega (arith, few, len);
+      counted = omega (arith, here, counted, set, none);
+      one = λ some.
+          let is = one (omega (arith, some)) in
+          record {
+            inside = omega (arith, is.inside, len);
+            read = get_or-set_other items place known x (pos 0) (other some) ∙ is.read;
+            short = is.short;
+          };
+    }
 
-pub others-lack : (balances : List ℤ) (one : ℕ) → OthersHave (λ node. get_or balances node (pos 0)) one (length balances) →
-    sum_others (length balances) one (short_at balances) ≡ 0
-others-lack balances one have = others-all (length balances) one (short_at balances)
-    (λ node low ne. short-none balances node (have node low ne))
+-- places are made
+pub places-made : (old new : List ℤ) (number : ℕ) → number ≡ short_of old → IsLonger old new → length old < length new →
+    length new ≤ 256 → AreCounted (number + (length new - length old)) (length old) (pos 0) new
+places-made old new number counted longer more few =
+    let short = short-longer old new longer in
+    record {
+      few = few;
+      counted = omega (arith, short, counted);
+      one = λ _. record {
+        inside = more;
+        read = longer.each (length old) ∙ get_or_past old (length old) (pos 0) (omega arith);
+        short = omega (arith, ints);
+      };
+    }
+
+-- ---- who has some
+
+-- none is short
+pub all-have : (balances : List ℤ) → short_of balances ≡ 0 → (node : ℕ) → node < length balances →
+    pos 0 <ℤ get_or balances node (pos 0)
+all-have balances none node low =
+    let split = sum_others-and (length balances) node (short_at balances) low in
+    short-no_more balances node (omega (arith, split, none))
+
+-- one is
+pub others-have : (balances : List ℤ) (place one : ℕ) (balance : ℤ) → short_of balances ≡ 1 → IsShortAt place balance balances →
+    (place ≡ one → OthersHave (λ node. get_or balances node (pos 0)) one (length balances))
+    × (OthersHave (λ node. get_or balances node (pos 0)) one (length balances) → place ≡ one)
+others-have balances place one balance single is =
+    let split = sum_others-and (length balances) place (short_at balances) is.inside in
+    let read = is.read in
+    let low = is.short in
+    let here : short_at balances place ≡ 1 = by-short (get_or balances place (pos 0)) (λ _ yes. yes)
+    (λ more _. absurd (omega (arith, ints, more, low, read))) in (
+      λ same node inside ne. short-no_more balances node
+          (others-none (length balances) place (short_at balances) (omega (arith, split, here, single)) node inside
+          (λ e. ne (e ∙ same))),
+      λ have. ⊎_elim (λ e. e) (λ ne.
+          let some = have place is.inside ne in
+          absurd (omega (arith, ints, some, low, read)))
+          (cases_eq place one),
+    )
+
+-- more than one is
+pub few-short : (balances : List ℤ) (one : ℕ) → OthersHave (λ node. get_or balances node (pos 0)) one (length balances) →
+    short_of balances ≤ 1
+few-short balances one have =
+    let none = others-all (length balances) one (short_at balances)
+    (λ node low ne. short-none balances node (have node low ne)) in
+    let own = short-one balances one in
+    ⊎_elim
+    (λ low.
+    let split = sum_others-and (length balances) one (short_at balances) low in
+    omega (arith, split, none, own))
+    (λ past.
+    let all = others-past (length balances) one (short_at balances) past in
+    omega (arith, all, none))
+    (cases_lt one (length balances))

@@ -1,5 +1,5 @@
 -- The balance of each node, side by side.
-use Rattle.std.specs.Prelude.{◌≡◌, ◌≢◌, ◌<◌, ◌≤◌, ◌^◌, ◌==◌, ℕ, if◌then◌else◌, List, length, get_or, ℤ, pos, int_le, ◌<ℤ◌, ◌+ℤ◌, ◌-ℤ◌}
+use Rattle.std.specs.Prelude.{◌≡◌, ◌≢◌, ◌<◌, ◌≤◌, ◌^◌, ◌==◌, ℕ, if◌then◌else◌, List, length, get_or, ℤ, pos, int_le, ◌<ℤ◌, ◌≤ℤ◌, ◌+ℤ◌, ◌-ℤ◌}
 use Rattle.counters.specs.Cells.{Shares, balance_of, moved_cell, spent_cell}
 use Rattle.counters.specs.Sums.{sum_below, AreWithin}
 
@@ -45,10 +45,18 @@ short_at balances node = one_if_short (get_or balances node (pos 0))
 abbrev pub short_of : List ℤ → ℕ
 short_of balances = sum_below (length balances) (short_at balances)
 
--- so many of the balances are short, and there are as many as nodes at most
-pub record AreCounted (short : ℕ) (balances : List ℤ) : Type 0 where
+-- this one of the balances is short
+pub record IsShortAt (place : ℕ) (balance : ℤ) (balances : List ℤ) : Type 0 where
+  pub inside : place < length balances
+  pub read : get_or balances place (pos 0) ≡ balance
+  pub short : balance ≤ℤ pos 0
+
+-- so many of the balances are short, this one among them, if there is one; and there are as many as
+-- nodes at most
+pub record AreCounted (number place : ℕ) (balance : ℤ) (balances : List ℤ) : Type 0 where
   pub few : length balances ≤ 256
-  pub count : short ≡ short_of balances
+  pub counted : number ≡ short_of balances
+  pub one : 0 < number → IsShortAt place balance balances
 
 -- each of the first nodes but one has a balance of 1 at least, of so many
 abbrev pub OthersHave : (ℕ → ℤ) → ℕ → ℕ → Type 0

@@ -4,20 +4,30 @@ ghost use Rattle.std.specs.Prelude.{◌≡◌, ◌≤◌, ◌<◌, ◌+◌, ◌^
 ghost use Rattle.std.specs.Prelude.{length, map, max, pos, get_or, slice_set};
 ghost use Rattle.std.specs.Prelude.{IfOk, OnOk, OnErr, IsTrue};
 ghost use Rattle.std.specs.List.{range_with_len};
-ghost use Rattle.counters.specs.Sums.{sum_others, AreWithin};
-ghost use Rattle.counters.specs.Balances.{one_if_short, short_at, short_of};
+ghost use Rattle.counters.specs.Sums.{AreWithin};
+ghost use Rattle.counters.specs.Balances.{one_if_short, AreCounted};
 ghost use Rattle.counters.specs.Balances.{AreReadFrom, IsLonger, MovesBetween, OthersHave};
 
 use crate::cells::{SpentAndMoved, add_rows, write_negated};
 use std::alloc::{AllocError, Global};
 use std::marker::Model;
 
-/// The balance of each node that has a place, beside how many of them are short: 0 or less. So it
-/// takes one look to know that no node is, however many there are.
+/// How many of some balances are short: 0 or less. And the place of one that is, and its balance,
+/// where there is one.
+#[derive(Debug, Drop)]
+struct Short {
+    count: usize,
+    place: usize,
+    balance: i128,
+}
+
+/// The balance of each node that has a place, beside how many of them are short, and one of these. So
+/// it takes no walk to know that all nodes but one have some, nor what that one has: it is the setter
+/// of a term, as soon as it has moved some of the count.
 #[derive(Debug, Drop)]
 pub struct Balances {
     by_node: Vec<i128>,
-    short: usize,
+    short: Short,
 }
 
 impl Model for Balances {
@@ -28,26 +38,37 @@ impl Model for Balances {
 
     ghost view = { λ b. b.by_node.items };
 
-    ghost invariant = { λ b. AreCounted b.short b.by_node.items };
+    ghost invariant = { λ b. AreCounted b.short.count b.short.place b.short.balance b.by_node.items };
 }
 
 // 1 where a balance is 0 or less, and 0 where it isn't.
-fn short(balance: i128) -> usize
+fn count_one(balance: i128) -> usize
     ensures { result ≡ one_if_short balance }
 {
     usize::from(balance <= 0)
 }
 
-// How many balances are short.
-fn count_short(balances: &[i128]) -> usize
+// Which balances are short.
+fn short_among(balances: &[i128]) -> Short
     requires { length balances.now ≤ 256 }
-    ensures { result ≡ short_of balances.now }
+    ensures { AreCounted result.count result.place result.balance balances.now }
 {
-    let mut count = 0;
+    let mut short = Short {
+        count: 0,
+        place: 0,
+        balance: 0,
+    };
     for place in 0..balances.len() {
-        count += short(balances[place]);
+        let balance = balances[place];
+        if balance <= 0 {
+            short = Short {
+                count: short.count + 1,
+                place,
+                balance,
+            };
+        }
     }
-    count
+    short
 }
 
 // Has a place for the balance of a node, with zeros up to it.
@@ -96,7 +117,11 @@ impl Balances {
     {
         Balances {
             by_node: Vec::new(alloc),
-            short: 0,
+            short: Short {
+                count: 0,
+                place: 0,
+                balance: 0,
+            },
         }
     }
 
@@ -114,7 +139,7 @@ impl Balances {
         let mut by_node = Vec::new(alloc);
         by_node.resize(nodes, 0)?;
         write_by_rows(shares, &mut by_node);
-        let short = count_short(&by_node);
+        let short = short_among(&by_node);
         Ok(Balances { by_node, short })
     }
 
@@ -125,7 +150,7 @@ impl Balances {
         ensures small { AreWithin (2 ^ 100) self.new }
     {
         write_by_rows(shares, &mut self.by_node);
-        self.short = count_short(&self.by_node);
+        self.short = short_among(&self.by_node);
     }
 
     /// How many nodes have a place.
@@ -139,6 +164,9 @@ impl Balances {
     pub(crate) fn at(&self, node: usize) -> i128
         ensures { result ≡ get_or self.now node (pos 0) }
     {
+        if self.short.count > 0 && self.short.place == node {
+            return self.short.balance;
+        }
         self.by_node.get(node).copied().unwrap_or(0)
     }
 
@@ -160,7 +188,14 @@ impl Balances {
     {
         let held = self.by_node.len();
         make_place(&mut self.by_node, node)?;
-        self.short += self.by_node.len() - held;
+        let more = self.by_node.len() - held;
+        if more > 0 {
+            self.short = Short {
+                count: self.short.count + more,
+                place: held,
+                balance: 0,
+            };
+        }
         Ok(())
     }
 
@@ -204,27 +239,26 @@ impl Balances {
     }
 
     /// Whether each of the first nodes but this one has a balance of 1 at least, of so many. It takes
-    /// one look where as many have a place.
+    /// no walk where as many have a place.
     pub(crate) fn others_have(&self, one: u8, nodes: usize) -> bool
         ensures { IsTrue result ↔ OthersHave (λ node. get_or self.now node (pos 0)) one nodes }
     {
         if self.by_node.len() == nodes {
-            self.short_others(one) == 0
+            self.only_short(one)
         } else {
             self.others_have_each(one, nodes)
         }
     }
 
-    // How many that have a place are short, this one left out.
-    fn short_others(&self, one: u8) -> usize
-        ensures { result ≡ sum_others (length self.now) one (short_at self.now) }
+    // Whether none that has a place is short, this one left out.
+    fn only_short(&self, one: u8) -> bool
+        ensures { IsTrue result
+            ↔ OthersHave (λ node. get_or self.now node (pos 0)) one (length self.now) }
     {
-        let place = usize::from(one);
-        if place < self.by_node.len() {
-            self.short - short(self.at(place))
-        } else {
-            self.short
+        if self.short.count > 1 {
+            return false;
         }
+        self.short.count == 0 || self.short.place == usize::from(one)
     }
 
     // Whether each of the others has a balance of 1 at least, by a look at each.
@@ -244,8 +278,18 @@ impl Balances {
         requires { place < length self.old }
         ensures { self.new ≡ slice_set self.old place balance }
     {
-        let others = self.short - short(self.at(place));
+        let others = self.short.count - count_one(self.at(place));
         self.by_node[place] = balance;
-        self.short = others + short(balance);
+        if balance <= 0 {
+            self.short = Short {
+                count: others + 1,
+                place,
+                balance,
+            };
+        } else if others > 0 && self.short.place == place {
+            self.short = short_among(&self.by_node);
+        } else {
+            self.short.count = others;
+        }
     }
 }

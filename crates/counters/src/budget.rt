@@ -75,9 +75,8 @@ impl Budget {
     }
 
     /// Whether each of the first nodes has a right, of as many as there are places. Where one has none,
-    /// the rights of all are written in the places, as `rights_of_all` writes them. How many balances
-    /// are short is kept, so it looks at two numbers where as many nodes have a balance, and else at
-    /// the balance of each.
+    /// the rights of all are written in the places, as `rights_of_all` writes them. How many nodes are
+    /// short is kept, so it takes no walk where as many have a balance, and else a look at each.
     pub fn all_have_rights(&self, setter: u8, count: u64, into: &mut [i128]) -> bool
         requires { length into.old ≤ 256 }
         ensures len { length into.new ≡ length into.old }
