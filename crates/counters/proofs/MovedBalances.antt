@@ -1,31 +1,15 @@
 -- What a move of rights makes of the balances.
-use Rattle.std.specs.Prelude.{◌≡◌, ◌<◌, ◌≤◌, ◌==◌, ◌+◌, ◌-◌, ◌^◌, ℕ, zero, suc, List, length, get_or, ℤ, pos, ◌+ℤ◌, ◌≤ℤ◌}
+use Rattle.std.specs.Prelude.{◌≡◌, ◌<◌, ◌≤◌, ◌==◌, ◌+◌, ◌-◌, ◌^◌, ℕ, List, length, get_or, ℤ, pos, ◌+ℤ◌, ◌≤ℤ◌}
 use Rattle.std.proofs.Common.{ap, arith, cond, subst, sym, ◌∙◌, ⊎_elim}
 use Rattle.std.proofs.lemmas.Bool.{cases_eq, cases_lt}
 use Rattle.std.proofs.lemmas.Int.{ints}
 use Rattle.std.proofs.lemmas.List.{get_or_past}
-use Rattle.counters.specs.Sums.{node_numbers, sum_below, AreWithin}
+use Rattle.counters.specs.Sums.{node_numbers, AreWithin}
 use Rattle.counters.specs.Cells.{Rows, Shares, balance_of, came_to, row_cell, spent_cell, went_from, WritesRowCell}
 use Rattle.counters.specs.Balances.{AreBalances, MovesBetween, comes_to, goes_from}
 use Rattle.counters.proofs.BalanceLemmas.{moved-settled}
 use Rattle.counters.proofs.CellLemmas.{below-numbers, chosen-other, chosen-same}
-use Rattle.counters.proofs.SumLemmas.{sum-same}
-
--- a sum of which one place changed
-pub sum-but-one : (n k : ℕ) (f g : ℕ → ℕ) → k < n → ((i : ℕ) → (i ≡ k → ⊥) → g i ≡ f i) →
-    sum_below n g + f k ≡ sum_below n f + g k
-sum-but-one zero k f g low h = absurd (omega arith)
-sum-but-one (suc n) k f g low h = ⊎_elim
-    (λ e.
-    let rest = sum-same n g f (λ i less. h i (λ same. omega (arith, same, less, e))) in
-    let here : g n ≡ g k = ap g e in
-    let was : f n ≡ f k = ap f e in
-    omega arith)
-    (λ ne.
-    let rest = sum-but-one n k f g (omega (arith, low, ne)) h in
-    let here = h n ne in
-    omega arith)
-    (cases_eq n k)
+use Rattle.counters.proofs.SumLemmas.{sum-but-one, sum-same}
 
 came-moved : (old new : Rows) (from to total before node : ℕ) → from < 256 → WritesRowCell old new from to total →
     before ≡ row_cell old from to → before ≤ total →

@@ -8,8 +8,8 @@ use Rattle.std.proofs.lemmas.List.{get_or-set_same, get_or-set_other, get_or_pas
 use Rattle.counters.specs.Sums.{sum_below, sum_others}
 use Rattle.counters.specs.Balances.{AreCounted, IsLonger, IsShortAt, OthersHave, one_if_short, short_at, short_of}
 use Rattle.counters.proofs.CellLemmas.{chosen-other, chosen-same}
-use Rattle.counters.proofs.MovedBalances.{sum-but-one}
-use Rattle.counters.proofs.SumLemmas.{sum-same, sum-zero, sum_others-and}
+use Rattle.counters.proofs.EntrySums.{sum_below-bound}
+use Rattle.counters.proofs.SumLemmas.{sum-but-one, sum-ones, sum-same, sum-zero, sum_others-and}
 
 -- ---- one balance
 
@@ -42,34 +42,8 @@ short-past balances node past =
     let none = get_or_past balances node (pos 0) past in
     by-short (get_or balances node (pos 0)) (λ _ one. one) (λ more _. absurd (omega (arith, ints, more, none)))
 
--- ---- sums of ones
+-- ---- sums of which one place is left out
 
-pub sum-few : (n : ℕ) (f : ℕ → ℕ) → ((i : ℕ) → f i ≤ 1) → sum_below n f ≤ n
-sum-few zero f h = omega arith
-sum-few (suc n) f h =
-    let rest = sum-few n f h in
-    let here = h n in
-    omega arith
-
--- ones behind are as many as there are
-sum-ones : (n k : ℕ) (f g : ℕ → ℕ) → n ≤ k → ((i : ℕ) → g i ≡ f i) → ((i : ℕ) → n ≤ i → g i ≡ 1) →
-    sum_below k g ≡ sum_below n f + (k - n)
-sum-ones n zero f g long same ones =
-    let none : n ≡ 0 = omega arith in
-    let sum = ap (λ m. sum_below m f) none in
-    omega (arith, sum, none)
-sum-ones n (suc k) f g long same ones = ⊎_elim
-    (λ e.
-    let sum = ap (λ m. sum_below m f) e in
-    let all = sum-same (suc k) g f (λ i l. same i) in
-    omega (arith, sum, all, e))
-    (λ ne.
-    let rest = sum-ones n k f g (omega (arith, long, ne)) same ones in
-    let here = ones k (omega (arith, long, ne)) in
-    omega (arith, rest, here, long, ne))
-    (cases_eq n (suc k))
-
--- a sum of which one place is left out
 others-none : (n i : ℕ) (f : ℕ → ℕ) → sum_others n i f ≡ 0 → (j : ℕ) → j < n → j ≢ i → f j ≡ 0
 others-none zero i f none j low ne = absurd (omega (arith, low))
 others-none (suc n) i f none j low ne =
@@ -94,7 +68,9 @@ others-past n i f past = sum-same n _ f (λ j low. chosen-other j i 0 (f j) (λ 
 -- ---- all balances
 
 pub short-few : (balances : List ℤ) → short_of balances ≤ length balances
-short-few balances = sum-few (length balances) (short_at balances) (short-one balances)
+short-few balances =
+    let most = sum_below-bound (length balances) 1 (short_at balances) (short-one balances) in
+    omega (arith, most)
 
 -- one balance is written
 pub short-set : (balances : List ℤ) (place : ℕ) (x : ℤ) → place < length balances →

@@ -22,8 +22,8 @@ struct Short {
 }
 
 /// The balance of each node that has a place, beside how many of them are short, and one of these. So
-/// it takes no walk to know that all nodes but one have some, nor what that one has: it is the setter
-/// of a term, as soon as it has moved some of the count.
+/// it takes no walk to know that all nodes but one have some, nor what that one has. Mostly it is the
+/// setter of a term, whose count isn't in its balance.
 #[derive(Debug, Drop)]
 pub struct Balances {
     by_node: Vec<i128>,
@@ -115,14 +115,9 @@ impl Balances {
     pub(crate) fn new(alloc: Global) -> Self
         ensures { result ≡ [] }
     {
-        Balances {
-            by_node: Vec::new(alloc),
-            short: Short {
-                count: 0,
-                place: 0,
-                balance: 0,
-            },
-        }
+        let by_node = Vec::new(alloc);
+        let short = short_among(&by_node);
+        Balances { by_node, short }
     }
 
     /// The balances of the first nodes, so many, by what the nodes spent and moved.
@@ -183,6 +178,7 @@ impl Balances {
         ensures ok { OnOk result (node < length self.new) }
         ensures longer { IsLonger self.old self.new }
         ensures few { length self.new ≤ 256 }
+        ensures err { OnErr result (self.new ≡ self.old) }
         ensures len { OnOk result (length self.new ≡ max (length self.old) (node + 1)) }
         ensures absent { OnErr result (length self.old ≤ node) }
     {
