@@ -1,17 +1,16 @@
 -- What each entry of a map adds to the sums by place.
-use Rattle.std.specs.Prelude.{◌≡◌, ◌≢◌, ◌<◌, ◌≤◌, ◌+◌, ◌*◌, ◌^◌, ◌==◌, ℕ, cond, List, [], ◌∷◌, length, get_or, slice_index, slice_set, map, ℤ, pos, ◌+ℤ◌, ◌-ℤ◌, ◌≤ℤ◌, ◌<ℤ◌}
+use Rattle.std.specs.Prelude.{◌≡◌, ◌≢◌, ◌<◌, ◌≤◌, ◌+◌, ◌*◌, ◌^◌, ◌==◌, ℕ, Bool, true, false, not, IsTrue, cond, List, [], ◌∷◌, length, get_or, slice_index, slice_set, map, ℤ, pos, int_le, ◌+ℤ◌, ◌-ℤ◌, ◌≤ℤ◌, ◌<ℤ◌}
 use Rattle.std.specs.List.{range_with_len}
 use Rattle.std.proofs.Common.{ap, arith, refl, subst, sym, ◌∙◌, ⊎_elim}
 use Rattle.std.proofs.Math.ListN.{length-set}
-use Rattle.std.proofs.lemmas.Bool.{cases_eq, cases_lt}
+use Rattle.std.proofs.lemmas.Bool.{cases_eq, cases_lt, true≢false}
 use Rattle.std.proofs.lemmas.Int.{ints}
 use Rattle.std.proofs.lemmas.List.{get_or-set_same, get_or-set_other, get_or_past}
 use Rattle.std.proofs.lemmas.List.FromFn.{fill_by_all, get_or-map-range_with_len, length-map-range_with_len}
 use mir.Syntax.{w128}
 use mir.Val.{SFits, of_z, to_z}
 use Rattle.counters.specs.Sums.{node_numbers, sum_others, AddsEach, AreWithin}
-use Rattle.counters.specs.Budgets.{rights, AllHaveRights}
-use Rattle.counters.specs.Balances.{OthersHave}
+use Rattle.counters.specs.Budgets.{rights}
 use Rattle.counters.specs.Cells.{Cells, Rows, Shares, balance_of, cell, row_cell, came_to, went_from, budget_of}
 use Rattle.counters.proofs.EntrySums.{counts-entry, sum-entry}
 use Rattle.counters.proofs.CellLemmas.{AreApart, below-numbers, chosen-other, chosen-same, total_of_others-empty}
@@ -196,7 +195,7 @@ rights-balance shares setter count i low =
     let own = sum_others-and node_numbers i (λ from. row_cell shares.second from i) (below-numbers i low) in
     omega (arith, ints)
 
--- so those of the others are their balances, and all have rights where the setter and the others have
+-- so those of the others are their balances
 pub rights-others : (shares : Shares) (setter count i : ℕ) → i < 256 → i ≢ setter →
     balance_of shares i ≡ rights (budget_of shares setter count) i
 rights-others shares setter count i low ne =
@@ -204,19 +203,17 @@ rights-others shares setter count i low ne =
     let none = chosen-other i setter count 0 ne in
     omega (arith, ints)
 
-pub all-by-setter : (shares : Shares) (setter count nodes : ℕ) → nodes ≤ 256 →
-    (setter < nodes → pos 0 <ℤ rights (budget_of shares setter count) setter) →
-    OthersHave (balance_of shares) setter nodes → AllHaveRights (rights (budget_of shares setter count)) nodes
-all-by-setter shares setter count nodes few own others node low = ⊎_elim
-    (λ same. subst (λ (i : ℕ). pos 0 <ℤ rights (budget_of shares setter count) i) (sym same) (own (omega (arith, same, low))))
-    (λ ne. subst (λ (r : ℤ). pos 0 <ℤ r) (rights-others shares setter count node (omega (arith, low, few)) ne)
-    (others node low ne))
-    (cases_eq node setter)
-
-pub others-by-all : (shares : Shares) (setter count nodes : ℕ) → nodes ≤ 256 →
-    AllHaveRights (rights (budget_of shares setter count)) nodes → OthersHave (balance_of shares) setter nodes
-others-by-all shares setter count nodes few all node low ne = subst (λ (r : ℤ). pos 0 <ℤ r)
-    (sym (rights-others shares setter count node (omega (arith, low, few)) ne)) (all node low)
+-- so one that isn't short has a right
+pub has-right : (shares : Shares) (setter count i : ℕ) (short : Bool) → i < 256 → i ≢ setter →
+    int_le (balance_of shares i) (pos 0) ≡ short →
+    (IsTrue (not short) → pos 0 <ℤ rights (budget_of shares setter count) i)
+    × (pos 0 <ℤ rights (budget_of shares setter count) i → IsTrue (not short))
+has-right shares setter count i true low ne is =
+    let same = rights-others shares setter count i low ne in
+    (λ no. absurd (true≢false (sym no)), λ more. absurd (omega (arith, ints, same, is, more)))
+has-right shares setter count i false low ne is =
+    let same = rights-others shares setter count i low ne in
+    (λ _. omega (arith, ints, same, is), λ _. refl)
 
 -- with the count at the place of the setter, if it has one
 pub with-count : (f : ℕ → ℤ) (spent : List ℤ) (setter count n : ℕ) (x : ℤ) → length spent ≡ n → setter < n →

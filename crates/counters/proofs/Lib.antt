@@ -6,7 +6,6 @@ pub mod CellLemmas
 pub mod Columns
 pub mod WriteLemmas
 pub mod CounterJoins
-pub mod AllRead
 pub mod BalanceLemmas
 pub mod MovedBalances
-pub mod ShortLemmas
+pub mod Known

@@ -1,5 +1,5 @@
 -- Sums over the numbers below n.
-use Rattle.std.proofs.Common.{◌≡◌, ◌≢◌, ℕ, ◌+◌, ◌-◌, ◌<◌, ◌≤◌, ◌==◌, zero, suc, Bool, true, false, cond, refl, sym, ◌∙◌, ap, arith, ⊎_elim}
+use Rattle.std.proofs.Common.{◌≡◌, ◌≢◌, ℕ, ◌+◌, ◌<◌, ◌≤◌, ◌==◌, zero, suc, Bool, true, false, cond, refl, sym, ◌∙◌, ap, arith, ⊎_elim}
 use Rattle.std.proofs.lemmas.Bool.{eqb-true, eqb-false, cases_eq}
 use Rattle.std.specs.Prelude.{ℤ, pos, ◌+ℤ◌}
 use Rattle.counters.specs.Sums.{sum_below, sum_others, int_sum_below}
@@ -168,21 +168,3 @@ sum-but-one (suc n) k f g low h = ⊎_elim
     let here = h n ne in
     omega arith)
     (cases_eq n k)
-
--- ones behind are as many as there are
-pub sum-ones : (n k : ℕ) (f g : ℕ → ℕ) → n ≤ k → ((i : ℕ) → g i ≡ f i) → ((i : ℕ) → n ≤ i → g i ≡ 1) →
-    sum_below k g ≡ sum_below n f + (k - n)
-sum-ones n zero f g long same ones =
-    let none : n ≡ 0 = omega arith in
-    let sum = ap (λ m. sum_below m f) none in
-    omega (arith, sum, none)
-sum-ones n (suc k) f g long same ones = ⊎_elim
-    (λ e.
-    let sum = ap (λ m. sum_below m f) e in
-    let all = sum-same (suc k) g f (λ i l. same i) in
-    omega (arith, sum, all, e))
-    (λ ne.
-    let rest = sum-ones n k f g (omega (arith, long, ne)) same ones in
-    let here = ones k (omega (arith, long, ne)) in
-    omega (arith, rest, here, long, ne))
-    (cases_eq n (suc k))

@@ -1,7 +1,7 @@
 -- The balance of each node, side by side.
-use Rattle.std.specs.Prelude.{◌≡◌, ◌≢◌, ◌<◌, ◌≤◌, ◌^◌, ◌==◌, ℕ, if◌then◌else◌, List, length, get_or, ℤ, pos, int_le, ◌<ℤ◌, ◌≤ℤ◌, ◌+ℤ◌, ◌-ℤ◌}
+use Rattle.std.specs.Prelude.{◌≡◌, ◌<◌, ◌≤◌, ◌^◌, ◌==◌, ℕ, Bool, true, if◌then◌else◌, List, length, get_or, ℤ, pos, int_le, ◌+ℤ◌, ◌-ℤ◌}
 use Rattle.counters.specs.Cells.{Shares, balance_of, moved_cell, spent_cell}
-use Rattle.counters.specs.Sums.{sum_below, AreWithin}
+use Rattle.counters.specs.Sums.{AreWithin}
 
 -- at each place stands the balance of the node
 abbrev pub AreReadFrom : Shares → List ℤ → Type 0
@@ -35,29 +35,14 @@ pub record MovesBetween (from to amount : ℕ) (old new : List ℤ) : Type 0 whe
   pub each : (node : ℕ) → node < length old → get_or new node (pos 0)
       ≡ get_or old node (pos 0) +ℤ pos (comes_to to amount node) -ℤ pos (goes_from from to amount node)
 
--- 1 where a balance is short, which is 0 or less; of a node; and how many of these are
-abbrev pub one_if_short : ℤ → ℕ
-one_if_short balance = if int_le balance (pos 0) then 1 else 0
+-- of each of the first nodes, of as many as there are marks, whether its balance is 0 or less
+abbrev pub AreMarked : List Bool → List ℤ → Type 0
+AreMarked marks balances = (node : ℕ) → node < length marks
+    → get_or marks node true ≡ int_le (get_or balances node (pos 0)) (pos 0)
 
-abbrev pub short_at : List ℤ → ℕ → ℕ
-short_at balances node = one_if_short (get_or balances node (pos 0))
-
-abbrev pub short_of : List ℤ → ℕ
-short_of balances = sum_below (length balances) (short_at balances)
-
--- this one of the balances is short
-pub record IsShortAt (place : ℕ) (balance : ℤ) (balances : List ℤ) : Type 0 where
-  pub inside : place < length balances
-  pub read : get_or balances place (pos 0) ≡ balance
-  pub short : balance ≤ℤ pos 0
-
--- so many of the balances are short, this one among them, if there is one; and there are as many as
--- nodes at most
-pub record AreCounted (number place : ℕ) (balance : ℤ) (balances : List ℤ) : Type 0 where
+-- what is known of the balances: who of the first nodes is short, and what one node has; and there are
+-- as many as nodes at most
+pub record AreKnown (marks : List Bool) (place : ℕ) (balance : ℤ) (balances : List ℤ) : Type 0 where
   pub few : length balances ≤ 256
-  pub counted : number ≡ short_of balances
-  pub one : 0 < number → IsShortAt place balance balances
-
--- each of the first nodes but one has a balance of 1 at least, of so many
-abbrev pub OthersHave : (ℕ → ℤ) → ℕ → ℕ → Type 0
-OthersHave balance one nodes = (node : ℕ) → node < nodes → node ≢ one → pos 0 <ℤ balance node
+  pub marked : AreMarked marks balances
+  pub one : get_or balances place (pos 0) ≡ balance

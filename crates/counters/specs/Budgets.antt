@@ -1,5 +1,5 @@
 -- The budget of one counted term: who holds how many rights to execute it.
-use Rattle.std.specs.Prelude.{◌≡◌, ℕ, Bool, ◌+◌, ◌<◌, ◌==◌, nat_le, ℤ, pos, ◌+ℤ◌, ◌-ℤ◌, ◌<ℤ◌, if◌then◌else◌}
+use Rattle.std.specs.Prelude.{◌≡◌, ℕ, Bool, ◌+◌, ◌<◌, ◌==◌, nat_le, ℤ, pos, ◌+ℤ◌, ◌-ℤ◌, if◌then◌else◌}
 use Rattle.counters.specs.Sums.{node_numbers, sum_below, int_sum_below, sum_others}
 
 -- a term counted in a key: the node that set it, its count, the total that each node shifted to
@@ -28,10 +28,6 @@ gone_from b i = sum_others node_numbers i (λ j. b.shifted i j) + b.spent i
 -- the rights of node i, which are negative where a spend is known before the shift that paid for it
 abbrev pub rights : Budget → ℕ → ℤ
 rights b i = pos (given_to b i) -ℤ pos (gone_from b i)
-
--- each of so many nodes, from the first on, has a right
-abbrev pub AllHaveRights : (ℕ → ℤ) → ℕ → Type 0
-AllHaveRights rights nodes = (node : ℕ) → node < nodes → pos 0 <ℤ rights node
 
 -- node i has rights of this amount
 abbrev pub has_rights : Budget → ℕ → ℕ → Bool

@@ -1,74 +1,88 @@
 //! The balance of each node, side by side.
 
-ghost use Rattle.std.specs.Prelude.{◌≡◌, ◌≤◌, ◌<◌, ◌+◌, ◌^◌, ◌≤ℤ◌, ◌+ℤ◌, ◌-ℤ◌, ◌↔◌, ℕ, List, []};
-ghost use Rattle.std.specs.Prelude.{length, map, max, pos, get_or, slice_set};
-ghost use Rattle.std.specs.Prelude.{IfOk, OnOk, OnErr, IsTrue};
+ghost use Rattle.std.specs.Prelude.{◌≡◌, ◌≢◌, ◌≤◌, ◌<◌, ◌+◌, ◌^◌, ◌≤ℤ◌, ◌+ℤ◌, ◌-ℤ◌, ℕ, List, []};
+ghost use Rattle.std.specs.Prelude.{length, map, max, pos, get_or, int_le, slice_set, true};
+ghost use Rattle.std.specs.Prelude.{IfOk, OnOk, OnErr};
 ghost use Rattle.std.specs.List.{range_with_len};
 ghost use Rattle.counters.specs.Sums.{AreWithin};
-ghost use Rattle.counters.specs.Balances.{one_if_short, AreCounted};
-ghost use Rattle.counters.specs.Balances.{AreReadFrom, IsLonger, MovesBetween, OthersHave};
+ghost use Rattle.counters.specs.Balances.{AreMarked, AreReadFrom, IsLonger, MovesBetween};
 
 use crate::cells::{SpentAndMoved, add_rows, write_negated};
 use std::alloc::{AllocError, Global};
 use std::marker::Model;
 
-/// How many of some balances are short: 0 or less. And the place of one that is, and its balance,
-/// where there is one.
-#[derive(Debug, Drop)]
-struct Short {
-    count: usize,
+// Of how many nodes it is marked whether they are short.
+const MARKED: usize = 32;
+
+/// The balance of one node.
+#[derive(Clone, Copy, Debug)]
+struct Known {
     place: usize,
     balance: i128,
 }
 
-/// The balance of each node that has a place, beside how many of them are short, and one of these. So
-/// it takes no walk to know that all nodes but one have some, nor what that one has. Mostly it is the
-/// setter of a term, whose count isn't in its balance.
+/// The balance of each node that has a place. Beside these stand whether each of the first nodes is
+/// short, which is to have 0 or less, and the balance of one, the last written of those that are. So
+/// the row of balances isn't looked at to know who is short, nor, mostly, what the setter of a term
+/// has, whose count isn't in its balance.
 #[derive(Debug, Drop)]
 pub struct Balances {
     by_node: Vec<i128>,
-    short: Short,
+    are_short: [bool; MARKED],
+    known: Known,
 }
 
 impl Model for Balances {
     ghost use Rattle.std.specs.Prelude.{List, ℤ};
-    ghost use Rattle.counters.specs.Balances.{AreCounted};
+    ghost use Rattle.counters.specs.Balances.{AreKnown};
 
     ghost Value = { List ℤ };
 
     ghost view = { λ b. b.by_node.items };
 
-    ghost invariant = { λ b. AreCounted b.short.count b.short.place b.short.balance b.by_node.items };
+    ghost invariant = { λ b. AreKnown b.are_short b.known.place b.known.balance b.by_node.items };
 }
 
-// 1 where a balance is 0 or less, and 0 where it isn't.
-fn count_one(balance: i128) -> usize
-    ensures { result ≡ one_if_short balance }
+// Whether each of the first nodes is short.
+fn marked(balances: &[i128]) -> [bool; MARKED]
+    ensures { AreMarked result balances.now }
 {
-    usize::from(balance <= 0)
+    let mut are_short = [true; MARKED];
+    for place in 0..MARKED.min(balances.len()) {
+        if balances[place] > 0 {
+            are_short[place] = false;
+        }
+    }
+    are_short
 }
 
-// Which balances are short.
-fn short_among(balances: &[i128]) -> Short
-    requires { length balances.now ≤ 256 }
-    ensures { AreCounted result.count result.place result.balance balances.now }
+// Marks whether a node is short, if it is one of the first.
+fn mark(are_short: &mut [bool; MARKED], place: usize, is_short: bool)
+    ensures len { length are_short.new ≡ length are_short.old }
+    ensures this_place { place < length are_short.old → get_or are_short.new place true ≡ is_short }
+    ensures others { (node : ℕ) → node ≢ place
+        → get_or are_short.new node true ≡ get_or are_short.old node true }
 {
-    let mut short = Short {
-        count: 0,
-        place: 0,
+    if place < MARKED {
+        are_short[place] = is_short;
+    }
+}
+
+// The balance of the last node that is short, or of one that has no place.
+fn known_among(balances: &[i128]) -> Known
+    ensures { get_or balances.now result.place (pos 0) ≡ result.balance }
+{
+    let mut known = Known {
+        place: balances.len(),
         balance: 0,
     };
     for place in 0..balances.len() {
         let balance = balances[place];
         if balance <= 0 {
-            short = Short {
-                count: short.count + 1,
-                place,
-                balance,
-            };
+            known = Known { place, balance };
         }
     }
-    short
+    known
 }
 
 // Has a place for the balance of a node, with zeros up to it.
@@ -116,8 +130,13 @@ impl Balances {
         ensures { result ≡ [] }
     {
         let by_node = Vec::new(alloc);
-        let short = short_among(&by_node);
-        Balances { by_node, short }
+        let are_short = marked(&by_node);
+        let known = known_among(&by_node);
+        Balances {
+            by_node,
+            are_short,
+            known,
+        }
     }
 
     /// The balances of the first nodes, so many, by what the nodes spent and moved.
@@ -134,8 +153,13 @@ impl Balances {
         let mut by_node = Vec::new(alloc);
         by_node.resize(nodes, 0)?;
         write_by_rows(shares, &mut by_node);
-        let short = short_among(&by_node);
-        Ok(Balances { by_node, short })
+        let are_short = marked(&by_node);
+        let known = known_among(&by_node);
+        Ok(Balances {
+            by_node,
+            are_short,
+            known,
+        })
     }
 
     /// Writes each balance anew, by what the nodes spent and moved.
@@ -145,7 +169,8 @@ impl Balances {
         ensures small { AreWithin (2 ^ 100) self.new }
     {
         write_by_rows(shares, &mut self.by_node);
-        self.short = short_among(&self.by_node);
+        self.are_short = marked(&self.by_node);
+        self.known = known_among(&self.by_node);
     }
 
     /// How many nodes have a place.
@@ -159,8 +184,8 @@ impl Balances {
     pub(crate) fn at(&self, node: usize) -> i128
         ensures { result ≡ get_or self.now node (pos 0) }
     {
-        if self.short.count > 0 && self.short.place == node {
-            return self.short.balance;
+        if self.known.place == node {
+            return self.known.balance;
         }
         self.by_node.get(node).copied().unwrap_or(0)
     }
@@ -182,17 +207,7 @@ impl Balances {
         ensures len { OnOk result (length self.new ≡ max (length self.old) (node + 1)) }
         ensures absent { OnErr result (length self.old ≤ node) }
     {
-        let held = self.by_node.len();
-        make_place(&mut self.by_node, node)?;
-        let more = self.by_node.len() - held;
-        if more > 0 {
-            self.short = Short {
-                count: self.short.count + more,
-                place: held,
-                balance: 0,
-            };
-        }
-        Ok(())
+        make_place(&mut self.by_node, node)
     }
 
     /// Takes so much from the balance of a node that has a place.
@@ -234,39 +249,15 @@ impl Balances {
         }
     }
 
-    /// Whether each of the first nodes but this one has a balance of 1 at least, of so many. It takes
-    /// no walk where as many have a place.
-    pub(crate) fn others_have(&self, one: u8, nodes: usize) -> bool
-        ensures { IsTrue result ↔ OthersHave (λ node. get_or self.now node (pos 0)) one nodes }
+    /// Whether a node is short: it has a balance of 0 or less. The balances are looked at only for a
+    /// node behind the first.
+    pub(crate) fn is_short(&self, node: usize) -> bool
+        ensures { result ≡ int_le (get_or self.now node (pos 0)) (pos 0) }
     {
-        if self.by_node.len() == nodes {
-            self.only_short(one)
-        } else {
-            self.others_have_each(one, nodes)
+        match self.are_short.get(node) {
+            Some(is_short) => *is_short,
+            None => self.at(node) <= 0,
         }
-    }
-
-    // Whether none that has a place is short, this one left out.
-    fn only_short(&self, one: u8) -> bool
-        ensures { IsTrue result
-            ↔ OthersHave (λ node. get_or self.now node (pos 0)) one (length self.now) }
-    {
-        if self.short.count > 1 {
-            return false;
-        }
-        self.short.count == 0 || self.short.place == usize::from(one)
-    }
-
-    // Whether each of the others has a balance of 1 at least, by a look at each.
-    fn others_have_each(&self, one: u8, nodes: usize) -> bool
-        ensures { IsTrue result ↔ OthersHave (λ node. get_or self.now node (pos 0)) one nodes }
-    {
-        for node in 0..nodes {
-            if node != usize::from(one) && self.at(node) <= 0 {
-                return false;
-            }
-        }
-        true
     }
 
     // Writes the balance of a node that has a place.
@@ -274,18 +265,11 @@ impl Balances {
         requires { place < length self.old }
         ensures { self.new ≡ slice_set self.old place balance }
     {
-        let others = self.short.count - count_one(self.at(place));
+        let is_short = balance <= 0;
         self.by_node[place] = balance;
-        if balance <= 0 {
-            self.short = Short {
-                count: others + 1,
-                place,
-                balance,
-            };
-        } else if others > 0 && self.short.place == place {
-            self.short = short_among(&self.by_node);
-        } else {
-            self.short.count = others;
+        mark(&mut self.are_short, place, is_short);
+        if is_short || self.known.place == place {
+            self.known = Known { place, balance };
         }
     }
 }

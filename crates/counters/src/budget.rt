@@ -2,9 +2,9 @@
 
 ghost use Rattle.std.specs.Prelude.{◌≡◌, ◌↔◌, ◌≤◌, ◌+◌, ◌<◌, length, map, Some, None, IfOk, IfErr, OnOk, OnErr};
 ghost use Rattle.std.specs.Prelude.{◌∷◌, ◌<ℤ◌, [], max, false, pos, IsTrue};
-ghost use Rattle.std.specs.List.{range_with_len};
+ghost use Rattle.std.specs.List.{All, range_with_len};
 ghost use Rattle.counters.specs.Sums.{node_numbers, sum_below};
-ghost use Rattle.counters.specs.Budgets.{rights, AllHaveRights};
+ghost use Rattle.counters.specs.Budgets.{rights};
 ghost use Rattle.counters.specs.Cells.{no_shares, spent_cell, moved_cell, granted_cell, budget_of};
 ghost use Rattle.counters.specs.Cells.{WritesSpent, WritesMoved};
 ghost use Rattle.counters.specs.Refusals.{spend_refusal, shift_refusal, grant_refusal, too_great, IsRefusal};
@@ -74,22 +74,15 @@ impl Budget {
         }
     }
 
-    /// Whether each of the first nodes has a right, of as many as there are places. Where one has none,
-    /// the rights of all are written in the places, as `rights_of_all` writes them. How many nodes are
-    /// short is kept, so it takes no walk where as many have a balance, and else a look at each.
-    pub fn all_have_rights(&self, setter: u8, count: u64, into: &mut [i128]) -> bool
-        requires { length into.old ≤ 256 }
-        ensures len { length into.new ≡ length into.old }
-        ensures all { IsTrue result
-            ↔ AllHaveRights (rights (budget_of self.now setter count)) (length into.old) }
-        ensures rights { result ≡ false → into.new
-            ≡ map (rights (budget_of self.now setter count)) (range_with_len 0 (length into.old)) }
+    /// Whether each of these nodes has a right. It is marked who has none, so rights are read of the
+    /// setter alone, and of nodes behind the first 32.
+    pub fn have_rights(&self, setter: u8, count: u64, nodes: &[u8]) -> bool
+        ensures { IsTrue result
+            ↔ All (λ node. pos 0 <ℤ rights (budget_of self.now setter count) node) nodes.now }
     {
-        let all = self.have_rights(setter, count, into.len());
-        if !all {
-            self.rights_of_all(setter, count, into);
-        }
-        all
+        nodes
+            .iter()
+            .all(|node| self.has_right(setter, count, *node))
     }
 
     /// What a node spent.
@@ -253,21 +246,15 @@ impl Budget {
         self.raise_moved(alloc, node, node, total)
     }
 
-    // Whether each of the first nodes has a right, of so many.
-    fn have_rights(&self, setter: u8, count: u64, nodes: usize) -> bool
-        requires { nodes ≤ 256 }
-        ensures { IsTrue result
-            ↔ AllHaveRights (rights (budget_of self.now setter count)) nodes }
+    // Whether a node has a right.
+    fn has_right(&self, setter: u8, count: u64, node: u8) -> bool
+        ensures { IsTrue result ↔ (pos 0 <ℤ rights (budget_of self.now setter count) node) }
     {
-        self.setter_has(setter, count, nodes) && self.ledger.others_have(setter, nodes)
-    }
-
-    // Whether the node that had the whole count has a right, where it is one of the first, so many.
-    fn setter_has(&self, setter: u8, count: u64, nodes: usize) -> bool
-        ensures { IsTrue result
-            ↔ (setter < nodes → pos 0 <ℤ rights (budget_of self.now setter count) setter) }
-    {
-        nodes <= usize::from(setter) || self.rights(setter, count, setter) > 0
+        if node == setter {
+            self.rights(setter, count, node) > 0
+        } else {
+            !self.ledger.is_short(node)
+        }
     }
 
     // What the node will have spent, or the refusal.

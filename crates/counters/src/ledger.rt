@@ -1,12 +1,11 @@
 //! What the nodes spent and moved, beside the balance of each.
 
-ghost use Rattle.std.specs.Prelude.{◌≡◌, ◌^◌, ◌≤ℤ◌, ◌+ℤ◌, ◌↔◌, ℕ, length, map, max, pos};
-ghost use Rattle.std.specs.Prelude.{OnOk, OnErr, IsTrue};
+ghost use Rattle.std.specs.Prelude.{◌≡◌, ◌^◌, ◌≤ℤ◌, ◌+ℤ◌, ℕ, int_le, length, map, max, pos};
+ghost use Rattle.std.specs.Prelude.{OnOk, OnErr};
 ghost use Rattle.std.specs.List.{range_with_len};
 ghost use Rattle.counters.specs.Sums.{AreWithin};
 ghost use Rattle.counters.specs.Cells.{no_shares, spent_cell, moved_cell, balance_of};
 ghost use Rattle.counters.specs.Cells.{WritesSpent, WritesMoved};
-ghost use Rattle.counters.specs.Balances.{OthersHave};
 
 use crate::balances::Balances;
 use crate::cells::{Cells, Rows, SpentAndMoved, number_in_row, number_of, raise, raise_row};
@@ -88,11 +87,11 @@ impl Ledger {
         self.balances.write_to(into);
     }
 
-    /// Whether each of the first nodes but this one has a balance of 1 at least, of so many.
-    pub(crate) fn others_have(&self, one: u8, nodes: usize) -> bool
-        ensures { IsTrue result ↔ OthersHave (balance_of self.now) one nodes }
+    /// Whether a node is short: it has a balance of 0 or less.
+    pub(crate) fn is_short(&self, node: u8) -> bool
+        ensures { result ≡ int_le (balance_of self.now node) (pos 0) }
     {
-        self.balances.others_have(one, nodes)
+        self.balances.is_short(usize::from(node))
     }
 
     /// Raises what a node spent to at least this number. Memory is asked for only where it spent

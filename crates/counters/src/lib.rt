@@ -11,9 +11,7 @@ mod fault;
 mod hits;
 pub mod laws;
 mod ledger;
-mod shortage;
 
 pub use budget::Budget;
 pub use fault::CounterFault;
 pub use hits::HitCounter;
-pub use shortage::are_some;

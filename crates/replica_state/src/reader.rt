@@ -1,15 +1,13 @@
 //! What a replica has of one point, read without another look-up of its name.
 #![tactic(auto, unfolding(crate::specs::Points::empty_held))]
 
-ghost use Rattle.std.specs.Prelude.{◌≡◌, ◌↔◌, ◌≤◌, length, map, false, IsTrue};
-ghost use Rattle.std.specs.List.{range_with_len};
-ghost use Rattle.counters.specs.Budgets.{AllHaveRights};
+ghost use Rattle.std.specs.Prelude.{◌≡◌, ◌↔◌, ◌≤◌, ◌<ℤ◌, length, map, pos, IsTrue};
+ghost use Rattle.std.specs.List.{All, range_with_len};
 ghost use Rattle.replica_state.specs.Points.{Held, rights_of_key};
 ghost use Rattle.operations.specs.Counts.{given_key};
 ghost use Rattle.replica_state.specs.Stored.{stored_held, reader_held};
 ghost use Rattle.operations.specs.declared.counted.Counted.TheVariants.{Hits, Execs, Shifts};
 
-use counters::are_some;
 use operations::Counted;
 use stamp_register::Key;
 use std::alloc::AllocError;
@@ -42,19 +40,12 @@ pub trait Stored {
         }
     }
 
-    /// Whether each of the first nodes has a right to execute a term, of as many as there are places.
-    /// Where one has none, the rights of all are written in the places, as `rights_of_all` writes them.
-    fn all_have_rights(&self, term: u8, into: &mut [i128]) -> bool
-        requires { length into.old ≤ 256 }
-        ensures len { length into.new ≡ length into.old }
-        ensures all { IsTrue result ↔ AllHaveRights
-            (rights_of_key (held self.now).key (held self.now).number term) (length into.old) }
-        ensures rights { result ≡ false → into.new
-            ≡ map (rights_of_key (held self.now).key (held self.now).number term)
-            (range_with_len 0 (length into.old)) }
+    /// Whether each of these nodes has a right to execute a term.
+    fn have_rights(&self, term: u8, nodes: &[u8]) -> bool
+        ensures { IsTrue result ↔ All (λ node.
+            pos 0 <ℤ rights_of_key (held self.now).key (held self.now).number term node) nodes.now }
     {
-        self.rights_of_all(term, into);
-        are_some(into)
+        nodes.iter().all(|node| self.rights(term, *node) > 0)
     }
 
     /// The executions of a term at the first nodes, of as many as there are places.

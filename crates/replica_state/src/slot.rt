@@ -1,11 +1,11 @@
 //! What a matrix stores of one name.
 
-ghost use Rattle.std.specs.Prelude.{◌≡◌, ◌+◌, ◌<◌, ◌≤◌, ◌^◌, ◌==◌, if◌then◌else◌, pos, length, map};
+ghost use Rattle.std.specs.Prelude.{◌≡◌, ◌+◌, ◌<◌, ◌<ℤ◌, ◌≤◌, ◌^◌, ◌==◌, if◌then◌else◌, pos, length, map};
 ghost use Rattle.std.specs.Prelude.{◌↔◌, ℕ, option_map, is_none, Some, None, OnOk, IsTrue};
-ghost use Rattle.std.specs.List.{range_with_len};
+ghost use Rattle.std.specs.List.{All, range_with_len};
 ghost use Rattle.std.specs.Prelude.{OnErr, IfOk, IfNone, IfSome, IsSome, false};
 ghost use Rattle.counters.specs.Sums.{node_numbers, sum_below};
-ghost use Rattle.counters.specs.Budgets.{rights, total_spent, AllHaveRights};
+ghost use Rattle.counters.specs.Budgets.{rights, total_spent};
 ghost use Rattle.counters.specs.Cells.{budget_of, spent_cell, WritesSpent};
 ghost use Rattle.stamp_register.specs.Keys.{key_value};
 ghost use Rattle.replica_state.specs.Points.{empty_held, order_to_held, held_after_learning};
@@ -20,7 +20,7 @@ ghost use Rattle.operations.specs.declared.counted.Counted.TheVariants.{Hits, Ex
 
 use crate::reader::Stored;
 use crate::terms::terms_of;
-use counters::{Budget, HitCounter, are_some};
+use counters::{Budget, HitCounter};
 use lattice_laws::{Join, LexOf, MapOf, PairOf};
 use operations::{Count, Counted, count_of};
 use stamp_register::Key;
@@ -105,8 +105,8 @@ impl Stored for Slot {
     }
 
     #[tactic(auto, unfolding(crate::specs::Slots::slot_held))]
-    fn all_have_rights(&self, term: u8, into: &mut [i128]) -> bool {
-        all_have_rights(self, term, into)
+    fn have_rights(&self, term: u8, nodes: &[u8]) -> bool {
+        have_rights(self, term, nodes)
     }
 
     #[tactic(auto, unfolding(crate::specs::Slots::slot_held))]
@@ -237,21 +237,27 @@ fn counted_budget(slot: &Slot, term: u8) -> Option<(u8, u64, &Budget)>
     Some((key.node, count, budget))
 }
 
-/// Whether each of the first nodes has a right to execute a term, of as many as there are places.
-/// Where one has none, the rights of all are written in the places.
-pub(crate) fn all_have_rights(slot: &Slot, term: u8, into: &mut [i128]) -> bool
-    requires { length into.old ≤ 256 }
-    ensures len { length into.new ≡ length into.old }
-    ensures all { IsTrue result ↔ AllHaveRights (slot_rights slot.now term) (length into.old) }
-    ensures rights { result ≡ false
-        → into.new ≡ map (slot_rights slot.now term) (range_with_len 0 (length into.old)) }
+// Whether each of these nodes has a right to execute a term, by the rights of each.
+fn have_each(slot: &Slot, term: u8, nodes: &[u8]) -> bool
+    ensures { IsTrue result
+        ↔ All (λ node. pos 0 <ℤ slot_rights slot.now term node) nodes.now }
+{
+    for node in nodes {
+        if rights(slot, term, *node) <= 0 {
+            return false;
+        }
+    }
+    true
+}
+
+/// Whether each of these nodes has a right to execute a term.
+pub(crate) fn have_rights(slot: &Slot, term: u8, nodes: &[u8]) -> bool
+    ensures { IsTrue result
+        ↔ All (λ node. pos 0 <ℤ slot_rights slot.now term node) nodes.now }
 {
     match counted_budget(slot, term) {
-        Some((setter, count, budget)) => budget.all_have_rights(setter, count, into),
-        None => {
-            rights_of_all(slot, term, into);
-            are_some(into)
-        }
+        Some((setter, count, budget)) => budget.have_rights(setter, count, nodes),
+        None => have_each(slot, term, nodes),
     }
 }
 

@@ -7,7 +7,6 @@ use Rattle.std.proofs.lemmas.List.Elements.{All-cons, All-head, All-nil, All-tai
 use Rattle.std.proofs.lemmas.List.FromFn.{get_or-map-range_with_len}
 use Rattle.std.proofs.lemmas.List.Sorted.{All-permutation, IsPermutation-insert}
 use Rattle.operations.specs.declared.counted.Counted.TheVariants.{Execs, Hits}
-use Rattle.counters.specs.Budgets.{AllHaveRights}
 use Rattle.replica_state.proofs.StoredSlots.{held_rights}
 use Rattle.replica_state.specs.Cells.{held_at}
 use Rattle.replica_state.specs.Points.{Held, rights_of_key}
@@ -114,16 +113,16 @@ module _ (v : State) (name : List ℕ) (h : Held) (same : h ≡ held_at v name) 
   pub own_read : (term node : ℕ) → rights_of_key h.key h.number term node ≡ rights_of v name term node
   own_read term node = ap (λ (k : Held). rights_of_key k.key k.number term node) same ∙ held_rights v name term node
 
-  -- where each node has a right, none of these waits
-  pub nobody_waits : (term n : ℕ) (others : List ℕ) → All (λ o. o < n) others →
-      AllHaveRights (rights_of_key h.key h.number term) n → waiting v name term others ≡ []
-  nobody_waits term n [] within have = refl
-  nobody_waits term n (x ∷ xs) within have =
-      let P : ℕ → Type 0 = λ o. o < n in
+  -- where each of these has a right, none of them waits
+  pub nobody_waits : (term : ℕ) (others : List ℕ) → All (λ o. pos 0 <ℤ rights_of_key h.key h.number term o) others →
+      waiting v name term others ≡ []
+  nobody_waits term [] have = refl
+  nobody_waits term (x ∷ xs) have =
+      let P : ℕ → Type 0 = λ o. pos 0 <ℤ rights_of_key h.key h.number term o in
       let free : ℕ → Bool = λ o. int_gap (pos 0) (rights_of v name term o) == 0 in
       let right = some_right (rights_of v name term x)
-      (subst (λ r. pos 0 <ℤ r) (own_read term x) (have x (All-head P x xs within))) in
-      ap (λ b. cond b (x ∷ filter free xs) (filter free xs)) right ∙ nobody_waits term n xs (All-tail P x xs within) have
+      (subst (λ r. pos 0 <ℤ r) (own_read term x) (All-head P x xs have)) in
+      ap (λ b. cond b (x ∷ filter free xs) (filter free xs)) right ∙ nobody_waits term xs (All-tail P x xs have)
 
   -- of these nodes those wait that have no right by what was read
   pub waiting_read : (term n : ℕ) (rights : List ℤ) (others : List ℕ) → All (λ o. o < n) others →

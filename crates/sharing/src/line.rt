@@ -1,8 +1,7 @@
 //! Who waits for rights to one term, in which order, and what each is given.
 
 ghost use Rattle.std.specs.Prelude.{◌≡◌, ◌++◌, ◌∷◌, [], ◌≤◌, ◌==◌, ℕ, List, length, nat_lt, pos};
-ghost use Rattle.std.specs.Prelude.{◌<◌, ◌<ℤ◌, slice_index, slice_index_or, take, vec_len};
-ghost use Rattle.std.specs.Prelude.{false, IsTrue, OnOk};
+ghost use Rattle.std.specs.Prelude.{◌<◌, slice_index, slice_index_or, take, vec_len, OnOk};
 ghost use Rattle.std.specs.Int.{int_gap};
 ghost use Rattle.std.specs.List.{All, filter, position_or_len};
 ghost use Rattle.std.specs.List.Sorted.{IsNonDecreasingBy};
@@ -38,53 +37,17 @@ pub(crate) fn spare(rights: i128, still: u8) -> u64
     (rights - kept).min(i128::from(u64::MAX)) as u64
 }
 
-/// The rights of a node, 0 where there are none of it.
-fn rights_at(rights: &[i128], node: u8) -> i128
-    ensures { result ≡ slice_index_or rights.now node (pos 0) }
-{
-    rights.get(usize::from(node)).copied().unwrap_or(0)
-}
-
-/// The rights of a node, by those of the first nodes where it is one of these.
-fn rights_among<S: Stored>(stored: &S, term: u8, node: u8, rights: &[i128]) -> i128
-    requires { AreRights (S.held stored.now) term rights.now }
-    ensures { result
-        ≡ rights_of_key (S.held stored.now).key (S.held stored.now).number term node }
-{
-    if usize::from(node) < rights.len() {
-        rights_at(rights, node)
-    } else {
-        stored.rights(term, node)
-    }
-}
-
-/// Whether nothing is shifted of a term, since the node has none to spare or nobody is short. Else the
-/// rights of all are read. Its own rights are looked at first, unless it had some of the term before:
-/// then it mostly has some of this one too.
-fn is_idle<S: Stored>(stored: &S, giver: Giver, term: u8, room: &mut Room) -> bool
-    requires { IsRoomForOthers room.old }
-    ensures idle { IsTrue result → (v : State) (name : List ℕ) → S.held stored.now ≡ held_at v name
-        → term_shifts v name giver.node giver.still room.old.others.items term ≡ [] }
-    ensures rights { result ≡ false → AreRights (S.held stored.now) term room.new.rights.items }
-    ensures kept { IsAsLarge room.old room.new }
-{
-    if !room.has_some && spare(stored.rights(term, giver.node), giver.still) == 0 {
-        return true;
-    }
-    room.all_have_rights(stored, term)
-}
-
-/// What a node can spare of a term, by the rights that were read.
-fn spare_read<S: Stored>(stored: &S, giver: Giver, term: u8, room: &mut Room) -> u64
-    requires { AreRights (S.held stored.now) term room.old.rights.items }
-    ensures spare { result ≡ spare_of (rights_of_key (S.held stored.now).key
+/// What a node can spare of a term where one of the others is short of it, and else 0.
+fn spare_for<S: Stored>(stored: &S, giver: Giver, term: u8, others: &[u8]) -> u64
+    ensures idle { result ≡ 0 → (v : State) (name : List ℕ) → S.held stored.now ≡ held_at v name
+        → term_shifts v name giver.node giver.still others.now term ≡ [] }
+    ensures spare { 0 < result → result ≡ spare_of (rights_of_key (S.held stored.now).key
         (S.held stored.now).number term giver.node) giver.still }
-    ensures rights { AreRights (S.held stored.now) term room.new.rights.items }
-    ensures kept { IsAsLarge room.old room.new }
 {
-    let rights = rights_among(stored, term, giver.node, &room.rights);
-    room.has_some = rights > 0;
-    spare(rights, giver.still)
+    if stored.have_rights(term, others) {
+        return 0;
+    }
+    spare(stored.rights(term, giver.node), giver.still)
 }
 
 /// Writes which of these nodes have no right.
@@ -246,13 +209,11 @@ pub(crate) fn push_term<S: Stored>(
         ++ term_shifts v name.now giver.node giver.still room.old.others.items term) }
     ensures kept { IsAsLarge room.old room.new }
 {
-    if is_idle(stored, giver, term, room) {
-        return Ok(());
-    }
-    let spare = spare_read(stored, giver, term, room);
+    let spare = spare_for(stored, giver, term, &room.others);
     if spare == 0 {
         return Ok(());
     }
+    room.read_rights(stored, term);
     line_up(stored, term, room)?;
     push_shares(alloc, name, term, spare, &room.line, shifts)
 }

@@ -1,21 +1,18 @@
 //! Room for what is read of one point at a time, and of one of its terms. It is kept over all
 //! points of a round, so that no list grows at each anew.
 
-ghost use Rattle.std.specs.Prelude.{◌≡◌, ◌≤◌, false, map, vec_len, IsTrue, OnOk};
-ghost use Rattle.counters.specs.Budgets.{AllHaveRights};
+ghost use Rattle.std.specs.Prelude.{◌≡◌, ◌≤◌, map, vec_len, OnOk};
 ghost use Rattle.std.specs.List.{range_with_len};
 ghost use Rattle.operations.specs.declared.counted.Counted.TheVariants.{Execs};
-ghost use Rattle.replica_state.specs.Points.{rights_of_key};
 ghost use Rattle.sharing.specs.Rooms.{AreRights, HasPlaces, IsAsLarge};
 
 use replica_state::Stored;
 use std::alloc::{AllocError, Global};
 
 /// Who passed a point; and of a term the rights of each node, its executions, who waits, and in
-/// which line. `has_some` says that the node had rights to the term before.
+/// which line.
 #[derive(Debug, Drop)]
 pub(crate) struct Room {
-    pub(crate) has_some: bool,
     pub(crate) others: Vec<u8>,
     pub(crate) rights: Vec<i128>,
     pub(crate) executions: Vec<u64>,
@@ -27,7 +24,6 @@ impl Room {
     /// Room for none. It takes no memory.
     pub(crate) fn new(alloc: Global) -> Room {
         Room {
-            has_some: false,
             others: Vec::new(alloc),
             rights: Vec::new(alloc),
             executions: Vec::new(alloc),
@@ -44,21 +40,13 @@ impl Room {
         self.executions.resize(usize::from(nodes), 0)
     }
 
-    /// Whether each node has a right to a term. Where one has none, the rights of all are read.
-    pub(crate) fn all_have_rights<S: Stored>(&mut self, stored: &S, term: u8) -> bool
+    /// Reads the rights of each node to a term.
+    pub(crate) fn read_rights<S: Stored>(&mut self, stored: &S, term: u8)
         requires { vec_len self.old.rights ≤ 256 }
-        ensures all { IsTrue result → AllHaveRights
-            (rights_of_key (S.held stored.now).key (S.held stored.now).number term)
-            (vec_len self.old.rights) }
-        ensures rights { result ≡ false
-            → AreRights (S.held stored.now) term self.new.rights.items }
+        ensures rights { AreRights (S.held stored.now) term self.new.rights.items }
         ensures kept { IsAsLarge self.old self.new }
     {
-        let all = stored.all_have_rights(term, &mut self.rights);
-        if all {
-            self.has_some = true;
-        }
-        all
+        stored.rights_of_all(term, &mut self.rights);
     }
 
     /// Reads how often each node executed a term.

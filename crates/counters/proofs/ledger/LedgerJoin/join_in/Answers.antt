@@ -34,3 +34,11 @@ invariant_of-self-2 c =
           (omega (arith, len, items, w.if-len.false, c.len.ensures, c.len-2.ensures)) (omega (arith, len, items, few))
           (subst (λ (s : Shares). AreReadFrom s made) shares c.settle.ensures.read) c.settle.ensures.small)
     ]
+
+pub returns-clause-ok : goal.returns-clause-ok
+returns-clause-ok c =
+    let told = c.in_ok-join_in.ensures.ok in
+    elim c.if-len.branch [
+      | then-len w ↦ rw (ap (λ (i : _). i.shares) w.self-inside-is, ← c.self.view_is, ← c.other.view_is) told
+      | else-len w ↦ rw (ap (λ (i : _). i.shares) w.self-inside-is, ← c.self.view_is, ← c.other.view_is) told
+    ]
