@@ -17,6 +17,17 @@
 
 enum { NODES = 32, POINTS = 256, TERMS = 16, ROUNDS = 11 };
 
+/* What is measured: who sets the points, with which count of each term, and whether its rights are spread; how many
+ * nodes move a right of each to the last one; and how many points the others pass before each round, but for so many of
+ * the last nodes that pass none, and whether node 0 passes all. */
+struct line {
+    const char *what;
+    int setter, count;
+    bool is_spread;
+    int movers, points, quiet;
+    bool is_passer;
+};
+
 static failreg nodes[NODES];
 static const uint8_t SEED[32] = { 1 };
 
@@ -76,25 +87,26 @@ static void open_nodes(int first, int end)
         must(failreg_open(&nodes[n], (uint8_t)n, NODES, FAILREG_NO_CAP, SEED));
 }
 
-/* All points at a node, whose rights are its own, or those of all alike. */
-static void set_points(int node, bool is_spread)
+/* All points at the setter, whose rights are its own, or those of all alike. */
+static void set_points(const struct line *it)
 {
     char actions[TERMS * 16] = "", name[32];
     for (int term = 0; term < TERMS; term++)
-        strcat(strcat(actions, term ? "->" : ""), "0%64*off");
+        sprintf(actions + strlen(actions), "%s0%%%d*off", term ? "->" : "", it->count);
     for (int point = 0; point < POINTS; point++) {
         failreg_stamp stamp;
         size_t length = name_of(point, name);
-        must((is_spread ? failreg_set_spread : failreg_set)(&nodes[node], name, length, actions, strlen(actions), &stamp));
+        must((it->is_spread ? failreg_set_spread : failreg_set)(&nodes[it->setter], name, length, actions,
+                                                                strlen(actions), &stamp));
     }
 }
 
 /* Nodes behind the setter, so many, each move a right to each term to the last node. */
-static void move_rights(int setter, int movers)
+static void move_rights(const struct line *it)
 {
     char name[32];
     uint64_t total;
-    for (int n = setter + 1; n <= setter + movers; n++)
+    for (int n = it->setter + 1; n <= it->setter + it->movers; n++)
         for (int point = 0; point < POINTS; point++) {
             size_t length = name_of(point, name);
             for (int term = 0; term < TERMS; term++)
@@ -102,15 +114,24 @@ static void move_rights(int setter, int movers)
         }
 }
 
-/* The process of the others: they hear of the points, some of them move rights, they pass so many points before each
- * round, and each tells node 0, and hears that this came, so that it tells no more of it. */
-static void be_others(int setter, bool is_spread, int movers, int points)
+static void pass_points(int node, int points)
 {
     char name[32];
     failreg_act act;
+    for (int point = 0; point < points; point++) {
+        size_t length = name_of(point, name);
+        must(failreg_pass(&nodes[node], name, length, &act));
+    }
+}
+
+/* The process of the others: they hear of the points, some of them move rights, they pass so many points before each
+ * round, and each tells node 0, and hears that this came, so that it tells no more of it. */
+static void be_others(const struct line *it)
+{
+    int setter = it->setter;
     open_nodes(1, NODES);
     if (setter)
-        set_points(setter, is_spread);
+        set_points(it);
     for (int n = 1; n < NODES; n++) {
         if (setter) {
             write_message(setter, n == setter ? 0 : n);
@@ -124,13 +145,11 @@ static void be_others(int setter, bool is_spread, int movers, int points)
         if (!setter)
             hand_over(to_node);
     }
-    move_rights(setter, movers);
-    for (int round = 0; points && round < ROUNDS; round++)
+    move_rights(it);
+    for (int round = 0; it->points && round < ROUNDS; round++)
         for (int n = 1; n < NODES; n++) {
-            for (int point = 0; point < points; point++) {
-                size_t length = name_of(point, name);
-                must(failreg_pass(&nodes[n], name, length, &act));
-            }
+            if (n < NODES - it->quiet)
+                pass_points(n, it->points);
             write_message(n, 0);
             hand_over(to_node);
             await(to_others);
@@ -141,16 +160,16 @@ static void be_others(int setter, bool is_spread, int movers, int points)
 }
 
 /* Node 0 hears of the points, or tells the others of them. */
-static void begin(int setter, bool is_spread)
+static void begin(const struct line *it)
 {
     open_nodes(0, 1);
-    if (setter) {
+    if (it->setter) {
         await(to_node);
         take_message(0);
         hand_over(to_others);
         return;
     }
-    set_points(0, is_spread);
+    set_points(it);
     for (int n = 1; n < NODES; n++) {
         write_message(0, n);
         hand_over(to_others);
@@ -168,7 +187,7 @@ static void hear_others(void)
     }
 }
 
-static void measure(const char *what, int setter, bool is_spread, int movers, int points)
+static void measure(const struct line *it)
 {
     double best = 1e18;
     uint64_t shifts = 0, most = 0;
@@ -176,12 +195,14 @@ static void measure(const char *what, int setter, bool is_spread, int movers, in
     pid_t others = pipe(to_node) || pipe(to_others) ? -1 : fork();
     if (others == 0) {
         close(to_node[0]), close(to_others[1]);
-        be_others(setter, is_spread, movers, points);
+        be_others(it);
     }
     close(to_node[1]), close(to_others[0]);
-    begin(setter, is_spread);
+    begin(it);
     for (int round = 0; round < ROUNDS; round++) {
-        if (points)
+        if (it->is_passer)
+            pass_points(0, POINTS);
+        if (it->points)
             hear_others();
         double begun = microseconds();
         must(failreg_share(&nodes[0], &shifts));
@@ -196,24 +217,34 @@ static void measure(const char *what, int setter, bool is_spread, int movers, in
         fprintf(stderr, "share.c: the process of the others failed\n");
         exit(1);
     }
-    printf("%-66s %9.0f   %5llu shifts at most\n", what, best, (unsigned long long)most);
+    printf("%-70s %6.0f   %6llu shifts at most\n", it->what, best, (unsigned long long)most);
     fflush(stdout);
 }
+
+static const struct line LINES[] = {
+    { "nobody passed; the node has no right", .setter = 1, .count = 64 },
+    { "31 nodes passed 8 points; the node has no right", .setter = 1, .count = 64, .points = 8 },
+    { "31 nodes passed all points; the node has no right", .setter = 1, .count = 64, .points = POINTS },
+    { "nobody passed; the node has all rights", .setter = 0, .count = 64 },
+    { "31 nodes passed 8 points; each node has rights", .setter = 1, .count = 64, .is_spread = true, .points = 8 },
+    { "31 nodes passed all points; each node has rights", .setter = 1, .count = 64, .is_spread = true, .points = POINTS },
+    { "the same, and 1 more node moved rights of each term", .setter = 1, .count = 64, .is_spread = true, .movers = 1,
+      .points = POINTS },
+    { "the same, and 4 more", .setter = 1, .count = 64, .is_spread = true, .movers = 4, .points = POINTS },
+    { "31 nodes passed 8 points; the node has all rights at first", .setter = 0, .count = 64, .points = 8 },
+    { "31 nodes passed all points; the node has all rights at first", .setter = 0, .count = 64, .points = POINTS },
+    { "the same, but for one node, which never passes and has no right", .setter = 0, .count = 64, .points = POINTS,
+      .quiet = 1 },
+    { "all passed all points; one has no right, and each other the one it keeps", .setter = 0, .count = NODES - 1,
+      .is_spread = true, .points = POINTS, .is_passer = true },
+};
 
 int main(void)
 {
     between = mmap(NULL, sizeof *between, PROT_READ | PROT_WRITE, MAP_SHARED | MAP_ANONYMOUS, -1, 0);
     if (between == MAP_FAILED)
         return 1;
-    measure("nobody passed; the node has no right", 1, false, 0, 0);
-    measure("31 nodes passed 8 points; the node has no right", 1, false, 0, 8);
-    measure("31 nodes passed all points; the node has no right", 1, false, 0, POINTS);
-    measure("nobody passed; the node has all rights", 0, false, 0, 0);
-    measure("31 nodes passed 8 points; each node has rights", 1, true, 0, 8);
-    measure("31 nodes passed all points; each node has rights", 1, true, 0, POINTS);
-    measure("the same, and 1 more node moved rights of each term", 1, true, 1, POINTS);
-    measure("the same, and 4 more", 1, true, 4, POINTS);
-    measure("31 nodes passed 8 points; the node has all rights at first", 0, false, 0, 8);
-    measure("31 nodes passed all points; the node has all rights at first", 0, false, 0, POINTS);
+    for (size_t n = 0; n < sizeof LINES / sizeof *LINES; n++)
+        measure(&LINES[n]);
     return 0;
 }
