@@ -1,7 +1,7 @@
 //! Who waits for rights to one term, in which order, and what each is given.
 
 ghost use Rattle.std.specs.Prelude.{◌≡◌, ◌++◌, ◌∷◌, [], ◌≤◌, ◌==◌, ℕ, List, length, nat_lt, pos};
-ghost use Rattle.std.specs.Prelude.{◌<◌, slice_index, slice_index_or, take, vec_len, OnOk};
+ghost use Rattle.std.specs.Prelude.{◌<◌, ◌<ℤ◌, slice_index, slice_index_or, take, vec_len, OnOk};
 ghost use Rattle.std.specs.Int.{int_gap};
 ghost use Rattle.std.specs.List.{All, filter, position_or_len};
 ghost use Rattle.std.specs.List.Sorted.{IsNonDecreasingBy};
@@ -41,6 +41,8 @@ pub(crate) fn spare(rights: i128, still: u8) -> u64
 fn spare_for<S: Stored>(stored: &S, giver: Giver, term: u8, others: &[u8]) -> u64
     ensures idle { result ≡ 0 → (v : State) (name : List ℕ) → S.held stored.now ≡ held_at v name
         → term_shifts v name giver.node giver.still others.now term ≡ [] }
+    ensures nobody_waits { All (λ node. pos 0 <ℤ rights_of_key (S.held stored.now).key
+        (S.held stored.now).number term node) others.now → result ≡ 0 }
     ensures spare { 0 < result → result ≡ spare_of (rights_of_key (S.held stored.now).key
         (S.held stored.now).number term giver.node) giver.still }
 {
