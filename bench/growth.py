@@ -4,7 +4,6 @@ drills and audits, each at two sizes. See README.md beside this file."""
 
 import argparse
 import os
-import re
 import sys
 import tempfile
 
@@ -41,13 +40,11 @@ SETTINGS = {
 }
 
 
-# Messages of so many names, without grants and with all, each of them read and written so often.
+# Messages of so many names, without grants and with all, each of them taken in and written so often.
 FORMS = ("plain", "grants")
 NAMES = (64, 128, 256)
-TIMES = 100
+TIMES = 5
 
-# Drills of 16 nodes that pass, of so many entries, which one program makes and audits.
-ENTRIES = (1_000_000, 2_000_000)
 # Drills in parts, of so many entries: of nodes that pass, and of nodes that send messages round.
 DRILLS = ("passes", "forwards", "backwards")
 ENTRIES_OF_PARTS = (50_000, 100_000)
@@ -239,45 +236,21 @@ def time_turns(program):
         )
 
 
-class Command:
-    """A run of `bench` that did what one command says."""
-
-    def __init__(self, program, *words):
-        command = " ".join(map(str, words))
-        ran = Ran((program, command), first=FIRST)
-        said = re.fullmatch(r".*: (\d+) done, (\d+) bytes, 0 wrong\n", ran.printed.decode())
-        if not said:
-            sys.exit(f"{program} {command!r}: {ran.printed.decode()}{ran.said}")
-        self.count, self.bytes = map(int, said.groups())
-        # By the clock.
-        self.nanoseconds, self.to_audit = map(int, re.findall(r"(\d+) ns", ran.said))
-        # Of a processor.
-        self.seconds = ran.seconds
-        self.memory = ran.memory
-
-
-def message_bytes(program, form, names):
-    return Command(program, "messages", "decode", form, names, 0).bytes
-
-
-def time_messages(program, form):
-    """What is spent without reading or writing is left out of the times."""
-    few, many, most = NAMES
-    lengths = [message_bytes(program, form, names) for names in NAMES]
-    print(f"\n{form:<9}{f'MB/s, {few} names':>16}{many:>7}{most:>7}{'ratio':>7}{f'ms, {lengths[-1]} bytes':>20}{'most MiB':>10}")
-    for work in ("decode", "encode"):
-        rounds = [
-            [Command(program, "messages", work, form, names, times).seconds for names in NAMES for times in (0, TIMES)]
-            for _ in range(ROUNDS)
-        ]
-        best = [min(times) for times in zip(*rounds)]
-        seconds = [(after - before) / TIMES for before, after in zip(best[::2], best[1::2])]
-        speeds = [length / time / 1e6 for length, time in zip(lengths, seconds)]
-        memory = Command(program, "messages", work, form, most, 1).memory / 2**20
-        print(
-            f"{work:<9}{speeds[0]:>16.0f}{speeds[1]:>7.0f}{speeds[2]:>7.0f}{seconds[1] / seconds[0]:>7.2f}"
-            f"{seconds[2] * 1e3:>20.1f}{memory:>10.1f}"
-        )
+def time_messages(program):
+    """Milliseconds in which a node takes in the greatest message that it accepts, and in which it writes one that tells
+    the same, the least of some runs."""
+    print(f"\n{'message':<9}{'names':>6}{'bytes':>12}{'ms, taken in':>14}{'ratio':>7}{'written':>9}{'ratio':>7}{'most MiB':>10}")
+    for form in FORMS:
+        before = None
+        for names in NAMES:
+            ran = Ran((program, form, str(names), str(TIMES)), first=FIRST)
+            length, *took = (int(word) for word in ran.printed.split())
+            read, written = (f"{now / past:.2f}" if past else "" for now, past in zip(took, before or (0, 0)))
+            print(
+                f"{form:<9}{names:>6}{length:>12}{took[0] / 1e6:>14.0f}{read:>7}{took[1] / 1e6:>9.0f}{written:>7}"
+                f"{ran.memory / 2**20:>10.0f}"
+            )
+            before = took
 
 
 def told(program, nodes, changed, rounds):
@@ -304,25 +277,6 @@ def time_rounds(program):
                 f"{nodes:<7}{changed:>8}{few:>10}{messages / few:>10.0f}{length / few:>12.0f}{first / few:>15.1f}"
                 f"{second / few / 2:>10.1f}{(twice - none) / (once - none):>7.2f}{second / messages / 2:>14.2f}"
             )
-
-
-def made_and_audited(program, entries, work):
-    """Nanoseconds by the clock in which the calls were made and in which they were audited, and the most memory in MiB."""
-    ran = Command(program, "audits", entries, work)
-    return ran.nanoseconds, ran.to_audit, ran.memory / 2**20
-
-
-def time_audits(program):
-    """The sizes go in turn. `to make` is to the time in which one thread makes the calls, of as many entries."""
-    few, many = ENTRIES
-    print(f"\n{'ns to make one':<16}{f'audit it, {few}':>20}{many:>9}{'ratio':>7}{'to make':>9}{'MiB of calls':>14}{'with audit':>12}")
-    rounds = [[made_and_audited(program, count, "audit") for count in ENTRIES] for _ in range(ROUNDS_OF_DRILLS)]
-    (made, audited, memory), (_, twice, _) = ([min(parts) for parts in zip(*runs)] for runs in zip(*rounds))
-    before = made_and_audited(program, few, "make")[2]
-    print(
-        f"{made / few:<16.0f}{audited / few:>20.0f}{twice / many:>9.0f}{twice / audited:>7.2f}{audited / made:>9.2f}"
-        f"{before:>14.0f}{memory:>12.0f}"
-    )
 
 
 def read_and_audited(program, folder):
@@ -358,11 +312,6 @@ def time_parts(program, ring, room):
         )
 
 
-def all_messages(program):
-    for form in FORMS:
-        time_messages(program, form)
-
-
 def rounds_of_c(is_built):
     programs.library(is_built)
     with tempfile.TemporaryDirectory() as room:
@@ -376,20 +325,23 @@ def parts_of_c(is_built):
         time_parts(failreg, programs.of_c(room, "ring"), room)
 
 
-# What is timed of scripts, of programs of C, and of `bench`.
+def messages_of_c(is_built):
+    programs.library(is_built)
+    with tempfile.TemporaryDirectory() as room:
+        time_messages(programs.of_c(room, "great_message", f"{programs.EMBEDDING}/c"))
+
+
+# What is timed of scripts, and of programs of C.
 OF_SCRIPTS = {"passes": time_passes, "calls": time_calls, "exchanges": time_exchanges, "turns": time_turns}
-OF_C = {"rounds": rounds_of_c, "parts": parts_of_c}
-OF_BENCH = {"messages": all_messages, "audits": time_audits}
-PARTS = (*OF_SCRIPTS, *OF_C, *OF_BENCH)
+OF_C = {"rounds": rounds_of_c, "messages": messages_of_c, "parts": parts_of_c}
+PARTS = (*OF_SCRIPTS, *OF_C)
 
 
 def play(part, is_built):
     if part in OF_SCRIPTS:
         OF_SCRIPTS[part](programs.proved(is_built, "failreg", "--help"))
-    elif part in OF_C:
-        OF_C[part](is_built)
     else:
-        OF_BENCH[part](programs.proved(is_built, "bench", "passes registry counted 1"))
+        OF_C[part](is_built)
 
 
 def main():

@@ -47,10 +47,10 @@ def library(is_built):
         sys.exit(f"{LIBRARY} isn't there: embedding/build makes it, or leave out --built")
 
 
-def of_c(folder, source):
+def of_c(folder, source, where=HERE):
     """A program of C over the library."""
     program = os.path.join(folder, source)
-    words = ("cc", "-std=c11", "-O2", "-I", EMBEDDING, f"{HERE}/{source}.c", LIBRARY, "-lpthread", "-o", program)
+    words = ("cc", "-std=c11", "-O2", "-I", EMBEDDING, f"{where}/{source}.c", LIBRARY, "-lpthread", "-o", program)
     do(*words)
     return program
 
@@ -159,9 +159,9 @@ class Ran:
         self.memory = usage.ru_maxrss * 1024
 
 
-def instructions(words, text=b""):
+def instructions(words, text=b"", wanted=0):
     """How many instructions a run takes, by cachegrind, which counts the same each time (callgrind fails at programs of Go)."""
     tool = ("valgrind", "--tool=cachegrind", "--cache-sim=no", "--cachegrind-out-file=/dev/null")
-    said = Ran(words, text, first=tool).said
+    said = Ran(words, text, first=tool, wanted=wanted).said
     found = re.search(r"I\s+refs:\s+([\d,]+)", said)
     return int(found.group(1).replace(",", "")) if found else sys.exit(f"cachegrind says of {' '.join(words)}: {said}")

@@ -6,6 +6,7 @@ import argparse
 import json
 import os
 import re
+import shutil
 import subprocess
 import sys
 import tempfile
@@ -60,29 +61,38 @@ class Line(NamedTuple):
     wished: str = ""
 
 
+def drill_of(nodes, passes):
+    """A script of threads: each node sets a point, which a worker of its own passes."""
+    lines = [f"nodes {nodes} 4294967295", "seed " + "7" * 64]
+    lines += [f"start set {node} p 4000000000*print(x)" for node in range(nodes)]
+    for node in range(nodes):
+        lines.append(f"worker {node}")
+        # a line says so many passes at most
+        lines += [f"pass p {min(left, 65_535)}" for left in range(passes // nodes, 0, -65_535)]
+    return "\n".join(lines).encode()
+
+
 def lines():
     yield Line("no point is set", "Rust", Way("rust", "nothing-set"), "nothing-set")
     unset = "not set, another point is"
     yield Line(unset, "Rust", Way("rust", "unset"), "unset", "2 ns")
     yield Line(unset, "C, which asks whether it is set", Way("c", "looked"), "unset")
     yield Line(unset, "C, which passes it all the same", Way("c", "unset-at"), "unset")
-    for work, kind, wished in (("set, no count", "uncounted", "115 ns"), ("counted", "counted", "160 ns")):
-        yield Line(work, "a registry", Way("bench", f"registry {kind}"), kind, wished)
+    for work, kind in (("set, no count", "uncounted"), ("counted", "counted")):
         yield Line(work, "C, by number", Way("c", f"{kind}-at"), kind, "150 ns")
         yield Line(work, "C, by name", Way("c", kind), kind)
         yield Line(work, "Rust", Way("rust", kind), kind)
     chance = "with a chance of 50%"
-    yield Line(chance, "a registry", Way("bench", "registry chance"), "chance")
     yield Line(chance, "C, by number", Way("c", "chance-at"), "chance")
     yield Line(chance, "Rust", Way("rust", "chance"), "chance")
     for work, kind in (("set, four threads on one point", "uncounted"), ("counted, four threads", "counted")):
-        yield Line(work, "a registry", Way("bench", f"threads {kind}", 4), kind, "gofail's")
         yield Line(work, "C, by number", Way("c", f"{kind}-at", 4), kind, "gofail's")
         yield Line(work, "Rust", Way("rust", kind, 4), kind)
-    yield Line("set, four threads with a point each", "four registries", Way("bench", "nodes uncounted", 4), "own", "35 ns")
+    yield Line("set, four threads with a point each", "C, a node each", Way("c", "own-at", 4), "own", "35 ns")
     yield Line("set, 256 points in turn", "C, by number", Way("c", "many-at"), "many", "1.2 times one point")
-    yield Line("a line `pass` of a script", "`failreg sim`", Way("sim", "print(x)"), "", "200 ns")
-    yield Line("the audit of a pass", "16 nodes", Way("bench", "audits"), "", "300 ns")
+    yield Line("a line `pass` of a script", "`failreg sim`", Way("sim", "sim"), "", "200 ns")
+    yield Line("a pass of a worker, kept and audited", "`failreg threads`", Way("threads", "threads"))
+    yield Line("the audit of a pass", "`failreg audit`", Way("audit", "audit"), "", "300 ns")
 
 
 class Speed:
@@ -111,38 +121,19 @@ class Speed:
         return (many - few) / (COUNTED[1] - COUNTED[0])
 
 
-class Bench(Speed):
-    """`bench`, which tells the nanoseconds of all passes, or of an audit."""
-
-    def command(self, way, passes, work):
-        return self.path, f"audits {passes} {work}" if way.kind == "audits" else f"passes {way.kind} {passes}"
-
-    def time(self, way):
-        took = re.findall(r"(\d+) ns", Ran(self.command(way, PASSES, "audit"), first=FIRST).said)
-        return [int(took[way.kind == "audits"]) / PASSES]
-
-    def kept(self, way):
-        return None
-
-    def count(self, way):
-        few, many = (self.counted(way, passes) for passes in COUNTED)
-        return (many - few) / (COUNTED[1] - COUNTED[0])
-
-    def counted(self, way, passes):
-        # What it takes to make the calls is no part of their audit.
-        before = instructions(self.command(way, passes, "make")) if way.kind == "audits" else 0
-        return instructions(self.command(way, passes, "audit")) - before
-
-
-class Sim(Speed):
-    """`failreg sim`, whose passes are the difference of two scripts, in time of a processor."""
+class Script(Speed):
+    """A program that reads a script, whose passes are the difference of two, in time of a processor."""
 
     def script(self, way, passes):
-        return "\n".join(["nodes 1 4294967295", f"set 0 p0 {way.kind}"] + ["pass 0 p0"] * passes).encode()
+        raise NotImplementedError
+
+    def words(self, way, passes):
+        """Of programs that are not told how often: what they are, for each run."""
+        return self.path, way.kind
 
     def time(self, way):
         texts = (self.script(way, passes) for passes in (PASSES, 2 * PASSES))
-        return [Ran((self.path, "sim"), text, first=FIRST).seconds for text in texts]
+        return [Ran(self.words(way, PASSES), text, first=FIRST).seconds for text in texts]
 
     def figures(self, best):
         once, twice = best
@@ -152,8 +143,56 @@ class Sim(Speed):
         return None
 
     def count(self, way):
-        few, many = (instructions((self.path, "sim"), self.script(way, passes)) for passes in COUNTED)
+        few, many = (instructions(self.words(way, passes), self.script(way, passes)) for passes in COUNTED)
         return (many - few) / (COUNTED[1] - COUNTED[0])
+
+
+class Sim(Script):
+    """`failreg sim`."""
+
+    def script(self, way, passes):
+        return "\n".join(["nodes 1 4294967295", "set 0 p0 print(x)"] + ["pass 0 p0"] * passes).encode()
+
+
+class Threads(Script):
+    """`failreg threads`, whose workers stand at a node each."""
+
+    def script(self, way, passes):
+        return drill_of(way.threads, passes)
+
+
+class Audit(Speed):
+    """`failreg audit` of a drill of 16 nodes: what it takes more than to read the drill, in time of a processor. Its last
+    line is none of a drill where it is only to be read."""
+
+    def __init__(self, path, folder):
+        super().__init__(path)
+        self.drills = {}
+        for passes in (PASSES, *COUNTED):
+            audited, read = (os.path.join(folder, f"{kind}{passes}") for kind in ("audited", "read"))
+            Ran((path, "threads", "--quiet", "--record", audited), drill_of(16, passes))
+            shutil.copy(audited, read)
+            with open(read, "a", encoding="utf-8") as drill:
+                drill.write("x\n")
+            self.drills[passes] = audited, read
+
+    def time(self, way):
+        audited, read = self.drills[PASSES]
+        return [Ran((self.path, "audit", drill), first=FIRST, wanted=wanted).seconds for drill, wanted in ((audited, 0), (read, 1))]
+
+    def figures(self, best):
+        audited, read = best
+        return (audited - read) / PASSES * 1e9
+
+    def kept(self, way):
+        return None
+
+    def count(self, way):
+        few, many = (self.counted(*self.drills[passes]) for passes in COUNTED)
+        return (many - few) / (COUNTED[1] - COUNTED[0])
+
+    def counted(self, audited, read):
+        return instructions((self.path, "audit", audited)) - instructions((self.path, "audit", read), wanted=1)
 
 
 class Redis(Speed):
@@ -180,9 +219,11 @@ class Figure(NamedTuple):
 def build(folder, is_built):
     """Each program by its name. Those of Rust and of others are left out where what they take isn't installed."""
     programs.library(is_built)
+    failreg = programs.proved(is_built, "failreg", "--help")
     found = {
-        "bench": Bench(programs.proved(is_built, "bench", "passes registry counted 1")),
-        "sim": Sim(programs.proved(is_built, "failreg", "--help")),
+        "sim": Sim(failreg),
+        "threads": Threads(failreg),
+        "audit": Audit(failreg, folder),
         "c": Speed(programs.of_c(folder, "speed")),
         "mutex": Speed(programs.of_mutex(folder)),
     }

@@ -3,7 +3,7 @@
  *     speed KIND THREADS PASSES
  *
  * prints nanoseconds a pass, over all threads, and the bytes that a pass takes more of memory.
- * Threads share one node and take turns by a mutex. */
+ * Threads share one node and take turns by a mutex, unless each has a node of its own. */
 #define _POSIX_C_SOURCE 200809L
 #include "failreg.h"
 #include "timed.h"
@@ -14,6 +14,13 @@ static const char NAME[] = "some.point";
 static failreg node = FAILREG_CLOSED_NODE;
 static pthread_mutex_t mutex = PTHREAD_MUTEX_INITIALIZER;
 static uint32_t points[MOST_POINTS];
+
+/* A node of a thread's own, with no other on its lines of the processors' memory. */
+static struct own {
+    failreg node;
+    uint32_t point;
+    uint8_t apart[256 - sizeof(failreg) - sizeof(uint32_t)];
+} owns[MOST_THREADS];
 
 /* The mutex, for a thread that shares the node. */
 static void take(const struct share *share)
@@ -85,6 +92,18 @@ static void *pass_many(void *given)
     return NULL;
 }
 
+/* Of the thread's own node. */
+static void *pass_own(void *given)
+{
+    const struct share *share = given;
+    struct own *own = &owns[share->thread];
+    volatile long failed = 0;
+    failreg_act act;
+    for (long i = 0; i < share->passes; i++)
+        failed += is_failing(failreg_pass_at(&own->node, own->point, &act), &act);
+    return NULL;
+}
+
 static void *look(void *given)
 {
     const struct share *share = given;
@@ -99,11 +118,16 @@ static void *look(void *given)
     return NULL;
 }
 
-static void set(const char *name, const char *actions)
+static void set_at(failreg *there, const char *name, const char *actions)
 {
     failreg_stamp stamp;
-    if (failreg_set(&node, name, strlen(name), actions, strlen(actions), &stamp) != FAILREG_OK)
+    if (failreg_set(there, name, strlen(name), actions, strlen(actions), &stamp) != FAILREG_OK)
         stop("a set was refused");
+}
+
+static void set(const char *name, const char *actions)
+{
+    set_at(&node, name, actions);
 }
 
 /* The point, beside another one that is set. */
@@ -127,6 +151,23 @@ static void set_many(const char *actions)
     }
 }
 
+static void open_node(failreg *closed)
+{
+    const uint8_t seed[32] = { 1 };
+    if (failreg_open(closed, 0, 2, FAILREG_NO_CAP, seed) != FAILREG_OK)
+        stop("no node");
+}
+
+static void set_own(const char *actions)
+{
+    for (int i = 0; i < MOST_THREADS; i++) {
+        open_node(&owns[i].node);
+        set_at(&owns[i].node, NAME, actions);
+        if (failreg_point(&owns[i].node, NAME, sizeof NAME - 1, &owns[i].point) != FAILREG_OK)
+            stop("a point has no number");
+    }
+}
+
 static const struct {
     const char *kind;
     void (*start)(const char *);
@@ -143,14 +184,13 @@ static const struct {
     { "chance", set_one, "50%return", pass },
     { "chance-at", set_one, "50%return", pass_at },
     { "many-at", set_many, "return", pass_many },
+    { "own-at", set_own, "return", pass_own },
 };
 
 int main(int count, char **words)
 {
-    const uint8_t seed[32] = { 1 };
     struct wanted wanted = wanted_by(count, words);
-    if (failreg_open(&node, 0, 2, FAILREG_NO_CAP, seed) != FAILREG_OK)
-        stop("no node");
+    open_node(&node);
     for (size_t i = 0; i < sizeof KINDS / sizeof KINDS[0]; i++)
         if (strcmp(wanted.kind, KINDS[i].kind) == 0) {
             KINDS[i].start(KINDS[i].actions);

@@ -50,7 +50,8 @@ where
 {
     let alloc: Global = rt.alloc();
     let (registry, mut seats) = Registry::<L>::start(rt, alloc, blank, config, [0; 32], 1)?;
-    let (Ok(registry), Some(seat)) = (Arc::new(alloc, registry), seats.pop()) else {
+    let registry = Arc::new(alloc, registry)?;
+    let Some(seat) = seats.pop() else {
         return Err(NodeFault::OutOfMemory);
     };
     let peers = Peers::new(alloc, config.node, config.nodes, Hearing::Whenever)?;
