@@ -16,7 +16,6 @@ mod part_advice;
 mod standard;
 
 use advice::advice_on_service;
-use check_commands::check_threads;
 use command_line::{
     AuditOptions, Invocation, PartOptions, PictureOptions, ServeOptions, read_command_line,
 };
@@ -36,7 +35,7 @@ use std::thread::Threads;
 use std::time::Clock;
 use std::{io, net};
 use streams::Watched;
-use thread_commands::threads;
+use thread_commands::{check_threads, threads};
 
 fn main(rt: HostRuntime) -> anyhow::Result<ExitCode> {
     // They are held to the end.

@@ -1,2 +1,3 @@
+pub mod CheckedRuns
 pub mod Recorded
 pub mod Warned

@@ -11,7 +11,7 @@ use Rattle.streams.specs.declared.fault.ScriptFault.TheVariants as faults
 use Rattle.thread_plans.specs.BadLines.{bad_text}
 use Rattle.thread_warnings.specs.Runs.{RunFaults}
 use Rattle.thread_checks.specs.Checked.{plain_text}
-use Rattle.check_commands.specs.Checked.{ChecksSaying, FailsSaying, IsChecked}
+use Rattle.thread_commands.specs.Checked.{ChecksSaying, FailsSaying, IsChecked}
 use Rattle.commands.specs.Statuses.{OnStatus}
 use Rattle.thread_warnings.proofs.Inputs.{items_of}
 

@@ -3,7 +3,7 @@ use Rattle.std.specs.Prelude.{IfOk, string_bytes}
 use Rattle.thread_plans.specs.Plans.{PlanValue, plan_value}
 use Rattle.thread_scripts.specs.Outputs.{IsJudged}
 use Rattle.thread_checks.specs.Checked.{failed_text, plan_with}
-use Rattle.check_commands.proofs.run.check_plan.Goals as goal
+use Rattle.thread_commands.proofs.checked_run.check_plan.Goals as goal
 
 pub returns-clause-ok : goal.returns-clause-ok
 returns-clause-ok g c =

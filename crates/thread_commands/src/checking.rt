@@ -10,10 +10,10 @@ ghost use Rattle.streams.specs.Streams.{IfInput, Writes};
 ghost use Rattle.streams.specs.Watched.{has_failed, has_unflushed};
 ghost use Rattle.thread_plans.specs.BadLines.{bad_text};
 ghost use Rattle.thread_checks.specs.Checked.{plain_text};
-ghost use Rattle.check_commands.specs.Checked.{ChecksSaying, FailsSaying};
+ghost use Rattle.thread_commands.specs.Checked.{ChecksSaying, FailsSaying};
 ghost use Rattle.commands.specs.Statuses.{HasStatus, OnStatus};
 
-use crate::run::{CheckedRun, play_checked};
+use crate::checked_run::{CheckedRun, play_checked};
 use command_line::ThreadOptions;
 use commands::{finish_script, refuse, say};
 use drill_files::{file_at, in_the_way, keep_drill, keep_parts, part_files};

@@ -1,4 +1,4 @@
-use Rattle.check_commands.proofs.checking.keep.Goals as goal
+use Rattle.thread_commands.proofs.checking.keep.Goals as goal
 
 pub keep_parts-requires-clause-files : goal.keep_parts-requires-clause-files
 keep_parts-requires-clause-files g c = rw c.deref_mut.ensures.value c.in_ok-files-in-None-Some.ensures.number

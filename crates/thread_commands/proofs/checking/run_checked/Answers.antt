@@ -2,10 +2,10 @@ use Rattle.std.proofs.Common.{◌≡◌}
 use Rattle.streams.specs.Streams.{Writes}
 use Rattle.streams.specs.Watched.{inner_of}
 use Rattle.thread_checks.specs.Checked.{plain_text}
-use Rattle.check_commands.specs.Checked.{ChecksSaying}
+use Rattle.thread_commands.specs.Checked.{ChecksSaying}
 use Rattle.thread_plans.specs.BadLines.{bad_text}
 use Rattle.thread_warnings.proofs.Inputs.{in_input, on_input}
-use Rattle.check_commands.proofs.checking.run_checked.Goals as goal
+use Rattle.thread_commands.proofs.checking.run_checked.Goals as goal
 
 pub returns-clause-ok : goal.returns-clause-ok
 returns-clause-ok g c =

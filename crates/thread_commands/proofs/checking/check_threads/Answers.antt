@@ -1,8 +1,8 @@
 use Rattle.streams.specs.Streams.{Writes}
 use Rattle.streams.specs.Watched.{inner_of}
 use Rattle.streams.specs.declared.fault.ScriptFault.TheVariants as faults
-use Rattle.check_commands.proofs.CheckedRuns.{fails, on_failed, refused_unsaid, silent_where_good, too_long}
-use Rattle.check_commands.proofs.checking.check_threads.Goals as goal
+use Rattle.thread_commands.proofs.CheckedRuns.{fails, on_failed, refused_unsaid, silent_where_good, too_long}
+use Rattle.thread_commands.proofs.checking.check_threads.Goals as goal
 
 pub returns-clause-good : goal.returns-clause-good
 returns-clause-good g c =

@@ -1,9 +1,9 @@
 use Rattle.std.proofs.Common.{◌≡◌}
 use Rattle.streams.specs.Streams.{Writes}
 use Rattle.thread_warnings.specs.Runs.{RunFaults}
-use Rattle.check_commands.specs.Checked.{IsChecked}
-use Rattle.check_commands.proofs.CheckedRuns.{checked_on_ok}
-use Rattle.check_commands.proofs.checking.check_script.Goals as goal
+use Rattle.thread_commands.specs.Checked.{IsChecked}
+use Rattle.thread_commands.proofs.CheckedRuns.{checked_on_ok}
+use Rattle.thread_commands.proofs.checking.check_script.Goals as goal
 
 pub returns-clause-ok : goal.returns-clause-ok
 returns-clause-ok g c =

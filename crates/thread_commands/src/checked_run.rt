@@ -6,7 +6,7 @@ ghost use Rattle.streams.specs.declared.fault.ScriptFault.TheVariants.{BadLine, 
 ghost use Rattle.thread_plans.specs.BadLines.{bad_text};
 ghost use Rattle.thread_plans.specs.Plans.{plan_in, plan_value};
 ghost use Rattle.thread_checks.specs.Checked.{IsSizeOf, plain_text};
-ghost use Rattle.check_commands.specs.Checked.{IsChecked};
+ghost use Rattle.thread_commands.specs.Checked.{IsChecked};
 
 use std::alloc::{AllocError, Global};
 use std::sync::Wait;
