@@ -47,8 +47,8 @@ TIMES = 5
 
 # Drills in parts, of so many entries: of nodes that pass, and of nodes that send messages round.
 DRILLS = ("passes", "forwards", "backwards")
-ENTRIES_OF_PARTS = (50_000, 100_000)
-ROUNDS_OF_DRILLS = 3
+ENTRIES_OF_PARTS = (200_000, 400_000)
+ROUNDS_OF_DRILLS = 7
 
 # Rounds of gossip of so many nodes, before each of which so many of 256 points are passed; and how many messages
 # they make, more or less.

@@ -21,7 +21,6 @@ from matplotlib import pyplot  # noqa: E402
 COLOURS = {
     "Rust": "#0072b2",
     "C, by number": "#56b4e9",
-    "a registry": "#009e73",
     "gofail": "#e69f00",
     "libfiu": "#d55e00",
     "a mutex": "#999999",
