@@ -237,7 +237,7 @@ def time_turns(program):
 
 
 def time_messages(program):
-    """Milliseconds in which a node takes in the greatest message that it accepts, and in which it writes one that tells
+    """Milliseconds in which a node takes in a message of as many cells as it accepts, and in which it writes one that tells
     the same, the least of some runs."""
     print(f"\n{'message':<9}{'names':>6}{'bytes':>12}{'ms, taken in':>14}{'ratio':>7}{'written':>9}{'ratio':>7}{'most MiB':>10}")
     for form in FORMS:

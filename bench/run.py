@@ -128,7 +128,7 @@ class Script(Speed):
         raise NotImplementedError
 
     def words(self, way, passes):
-        """Of programs that are not told how often: what they are, for each run."""
+        """The same for each run: how many passes there are, the script says."""
         return self.path, way.kind
 
     def time(self, way):

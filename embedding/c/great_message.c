@@ -147,11 +147,12 @@ int main(int count, char **words)
     if (count != 4 || (strcmp(words[1], "plain") != 0 && strcmp(words[1], "grants") != 0))
         stop("usage: great_message plain|grants NAMES TIMES");
     int names = atoi(words[2]);
-    if (names < 1 || names > MOST_NAMES)
-        stop("1 to 256 names");
+    long times = atol(words[3]);
+    if (names < 1 || names > MOST_NAMES || times < 1)
+        stop("1 to 256 names, once or more often");
     make(names, strcmp(words[1], "grants") == 0);
     double least_read = 1e18, least_written = 1e18;
-    for (long times = atol(words[3]); times > 0; times--) {
+    for (; times > 0; times--) {
         failreg node = FAILREG_CLOSED_NODE;
         bool changed;
         want(failreg_open(&node, READER, NODES, FAILREG_NO_CAP, seed));
