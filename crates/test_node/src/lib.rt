@@ -1,5 +1,5 @@
-//! What is tested of what nodes are made of, and of what is kept of them: replicas, which learn the
-//! same in several orders; the texts of refusals; recorded drills; and readers and writers that fail.
+//! Tests of the crates below a node: action texts, settings, keys, counters, values that join,
+//! replicas, reports, messages, texts of errors, recorded drills, and readers and writers that fail.
 #![tactic(auto)]
 
 #[cfg(test)]

@@ -5,7 +5,7 @@ use super::*;
 /// A key: its clock, its node and its text.
 pub(super) type Keyed = (u64, u8, &'static str);
 
-/// An operation of a point. What is executed or shifted is of a term.
+/// An operation of a point. Executions, shifts and grants name a term.
 #[derive(Clone, Copy)]
 pub(super) enum Step {
     Set(Keyed),
@@ -13,6 +13,7 @@ pub(super) enum Step {
     Hit(u8, u64),
     Exec(Keyed, u8, u8, u64),
     Shift(Keyed, u8, u8, u8, u64),
+    Grant(Keyed, u8, u8, u64),
 }
 
 /// The name of a text of a table. These are all good, and only memory may be refused.
@@ -45,6 +46,7 @@ fn key_of(alloc: Global, step: Step) -> Result<Key, AllocError> {
         Step::Hit(..) => key(alloc, (9, 9, "off")),
         Step::Exec(keyed, ..) => key(alloc, keyed),
         Step::Shift(keyed, ..) => key(alloc, keyed),
+        Step::Grant(keyed, ..) => key(alloc, keyed),
     }
 }
 
@@ -66,6 +68,13 @@ fn op(name: Name, key: Key, step: Step) -> Op {
             term,
             from,
             to,
+            total,
+        },
+        Step::Grant(_, term, node, total) => Op::Grant {
+            name,
+            key,
+            term,
+            node,
             total,
         },
     }
