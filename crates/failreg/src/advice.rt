@@ -22,11 +22,12 @@ pub fn advice_on_service(
         }
         Err(ServiceFault::Serve(ServeFault::BindFailed)) => {
             format!(in alloc;
-                "port {port} is in use, or not for this user: another --port, or 0 for any"
+                "cannot listen on port {port}: in use, not permitted, or no descriptors left; choose \
+                 another --port, or 0 to let the system pick"
             )
         }
         Err(ServiceFault::Serve(ServeFault::AcceptFailed)) => {
-            format!(in alloc; "port {port}: let the process open more descriptors (ulimit -n)")
+            format!(in alloc; "port {port}: raise the limit of open descriptors (ulimit -n)")
         }
         Err(ServiceFault::Key(fault)) => {
             return advice_on_key(alloc, key_file.unwrap_or(""), fault);

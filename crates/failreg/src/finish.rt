@@ -42,7 +42,7 @@ pub fn finish_serve<R: Print + Eprint>(
     Ok(ExitCode::SUCCESS)
 }
 
-// The fault that showed that a node has forgotten what it did, where its service ended by that.
+// The error that showed that a node lost its state, if its service ended for that.
 fn forgotten(early: Option<Reason>) -> Option<NodeFault>
     ensures fault { result ≡ forgotten early }
     ensures none { result ≡ None → early_status early ≡ 0 }
@@ -56,12 +56,12 @@ fn forgotten(early: Option<Reason>) -> Option<NodeFault>
     }
 }
 
-// Says that a node has forgotten what it did, and what to do.
+// Prints that a node lost its state, and what to do.
 fn say_forgotten<R: Eprint>(rt: &R, node: u8, fault: NodeFault) -> io::Result<()> {
     eprintln!(rt;
-        "failreg: others know more of node {node} than it does ({fault}): it was started again and has \
-         forgotten what it did; it is served no more: start it from its part, or under a number that was \
-         never used"
+        "failreg: peers have newer state of node {node} ({fault}): it restarted without its journal, or \
+         a second process runs under its number. Exiting. End the other process, restart with --record \
+         FILE, or use a number that was never used."
     )
 }
 

@@ -156,7 +156,7 @@ where
     })) → HasStatus result 1 }
 {
     if options.telling.rounds > 0 && options.telling.peers.is_empty() {
-        eprintln!(rt; "warning: --rounds without a peer tells nobody")?;
+        eprintln!(rt; "warning: --rounds has no effect without peers")?;
     }
     let (node, nodes, port) = (options.node, options.nodes, options.listen.port());
     let key_file = options.key_file;

@@ -1,57 +1,53 @@
-//! What a refusal met of the part of a served node, and what to do.
+//! What is wrong with the journal of a served node, and how to fix it.
 
 use command_line::quoted;
 use node_service::OpenFault;
 use part_keeper::PartFault;
 use std::alloc::{AllocError, Global};
 
-/// What is to be done about a part that isn't the node's.
-const OWN_PART: &str = "name a file that the program may write: the node's own part as it was \
-    written, or a new one where nothing ran under its number yet";
+/// The fix for a file that isn't the node's journal.
+const OWN_JOURNAL: &str = "check the path and permissions. Use a new file only for a node number \
+    that was never used.";
 
-/// What is to be done about a part that somebody has.
-const END_OTHER: &str = "end what has it open, and give each node of the cluster a part of its own";
+/// The fix for a journal that another process has open.
+const END_OTHER: &str = "end that process, and give each node a journal of its own.";
 
-/// What is to be done where nothing can be written.
-const SEE_TO_IT: &str = "see to where it is written, and start the node again";
+/// The fix for a journal that can't be written.
+const MAKE_ROOM: &str = "free disk space or fix permissions, then restart the node.";
 
-// What was met.
+// What is wrong.
 fn met(alloc: Global, fault: &OpenFault) -> Result<String, AllocError> {
     match fault {
-        OpenFault::CantOpen(error) => format!(in alloc; "it can't be opened ({error})"),
-        OpenFault::NoFile => String::from_str(alloc, "it is no file"),
-        OpenFault::InUse => {
-            String::from_str(alloc, "it is open already, in this process or another")
-        }
+        OpenFault::CantOpen(error) => format!(in alloc; "cannot open ({error})"),
+        OpenFault::NoFile => String::from_str(alloc, "not a regular file"),
+        OpenFault::InUse => { String::from_str(alloc, "already open in this process or another") }
         OpenFault::OtherHead(told) => String::from_str(alloc, told),
-        OpenFault::NotBegun(error) => { format!(in alloc; "the part could not be begun ({error})") }
-        OpenFault::Lines(PartFault::ReadFailed) => String::from_str(alloc, "it can't be read"),
+        OpenFault::NotBegun(error) => { format!(in alloc; "cannot be started ({error})") }
+        OpenFault::Lines(PartFault::ReadFailed) => String::from_str(alloc, "cannot read"),
         OpenFault::Lines(PartFault::NoCall { line }) => {
-            format!(in alloc; "line {line}: it is no line of a call")
+            format!(in alloc; "line {line} is no line of a call")
         }
         OpenFault::Lines(PartFault::TooLong { line }) => {
-            format!(in alloc; "line {line} is longer than that of a call")
+            format!(in alloc; "line {line} is longer than a line of a call")
         }
         OpenFault::Lines(PartFault::Differs { line }) => {
-            format!(in alloc; "line {line}: the node does not answer as it says")
+            format!(in alloc; "line {line} does not replay")
         }
-        OpenFault::Lines(PartFault::OutOfMemory) => {
-            String::from_str(alloc, "memory was refused")
-        }
+        OpenFault::Lines(PartFault::OutOfMemory) => { String::from_str(alloc, "out of memory") }
     }
 }
 
 fn to_do(fault: &OpenFault) -> &'static str {
     match fault {
-        OpenFault::CantOpen(_) | OpenFault::NoFile | OpenFault::OtherHead(_) => OWN_PART,
+        OpenFault::CantOpen(_) | OpenFault::NoFile | OpenFault::OtherHead(_) => OWN_JOURNAL,
         OpenFault::InUse => END_OTHER,
-        OpenFault::NotBegun(_) | OpenFault::Lines(PartFault::OutOfMemory) => SEE_TO_IT,
+        OpenFault::NotBegun(_) | OpenFault::Lines(PartFault::OutOfMemory) => MAKE_ROOM,
         OpenFault::Lines(
             PartFault::ReadFailed
             | PartFault::NoCall { .. }
             | PartFault::TooLong { .. }
             | PartFault::Differs { .. },
-        ) => OWN_PART,
+        ) => OWN_JOURNAL,
     }
 }
 
@@ -59,11 +55,11 @@ fn advice_on_fault(alloc: Global, path: &str, fault: &OpenFault) -> Result<Strin
     let shown = quoted(alloc, path)?;
     let met = met(alloc, fault)?;
     let to_do = to_do(fault);
-    format!(in alloc; "part {shown}: {met}: {to_do}")
+    format!(in alloc; "journal {shown}: {met}: {to_do}")
 }
 
-/// What of a part was met from which a node doesn't go on, and what to do. Without memory for it there
-/// is none.
+/// What is wrong with a journal from which a node can't resume, and how to fix it; empty if memory runs
+/// out.
 pub fn advice_on_recorded(alloc: Global, path: &str, fault: &OpenFault) -> String {
     advice_on_fault(alloc, path, fault).unwrap_or(String::new(alloc))
 }

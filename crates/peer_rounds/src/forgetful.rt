@@ -115,10 +115,11 @@ impl Said {
     }
 }
 
-// Says that a node has forgotten what it did, and what to do.
+// Prints that a node lost its state, and what to do.
 fn say_forgotten<R: Eprint>(rt: &R, node: u8, fault: Forgetting) -> io::Result<()> {
     eprintln!(rt;
-        "failreg: node {node} has forgotten what it did (it answers {fault}): it was started again \
-         without its part: end it, and start it from its part, or under a number that was never used"
+        "failreg: node {node} lost its state (it answers {fault}): it restarted without its journal, or \
+         a second process runs under its number. End it, and restart it with its journal, or under a \
+         number that was never used."
     )
 }

@@ -1,424 +1,428 @@
 //! What is said of each code.
 
 /// The entries of all codes, with a bar between two. The first line of an entry is its title, which
-/// begins with the code; below it stand the columns that the page on refusals has of the code.
+/// starts with the code; the lines below are the columns of that code on the page of errors.
 pub const TABLE: &str = "\
 N1 TraceFull
-  Of a node
-  Refused are: each call but readers
-  Because: the node has accepted as many calls as its cap
-  What to do: make the cluster with a greater cap: a cap is for the node's
-    whole life. Readers (`list`, `report`, `rights`, `spent`, `hits`) and
-    refused calls don't count
+  Node error
+  Affects: every call except readers (`list`, `report`, `rights`, `spent`,
+    `hits`)
+  Cause: the node has accepted as many calls as its call limit, or keeps
+    2^32 of them
+  Fix: start a new run with a greater limit (`--no-cap`): a limit is for the
+    node's whole life. A program that keeps its calls can discard or give them
+    away. Readers and rejected calls don't count
 |N2 BadName
-  Of a node
-  Refused are: `set`, `remove`, `load`, `pass`, `shift`, `grant`
-  Because: the name isn't 1 to 128 bytes of ASCII letters, digits, `_`, `-`,
+  Node error
+  Affects: `set`, `remove`, `load`, `pass`, `shift`, `grant`
+  Cause: the name isn't 1 to 128 bytes of ASCII letters, digits, `_`, `-`,
     `.` and `:`
-  What to do: take a name of these; in a `load` no space stands before `=`:
-    it would belong to the name
+  Fix: use only these; in a FAILPOINTS string no space may stand before the
+    `=`
 |N3 BadActions
-  Of a node
-  Refused are: `set`, `load`
-  Because: the action text or the setting text is refused; the fault follows
-  What to do: see the code that follows: A of an action text, S of a setting
-    text
+  Node error
+  Affects: `set`, `load`
+  Cause: the action string or FAILPOINTS string is wrong; its own error
+    follows
+  Fix: see the code that follows: A for an action string, S for a FAILPOINTS
+    string
 |N4 TooManyPoints
-  Of a node
-  Refused are: `set`, `remove`, `load`, `deliver`
-  Because: the node would hold more than 256 names
-  What to do: removed names count as well, for good: use a removed name
-    again
+  Node error
+  Affects: `set`, `remove`, `load`, `deliver`
+  Cause: the node would hold more than 256 names; removed names count
+    permanently
+  Fix: reuse a removed name, or start a new run
 |N5 ClockFull
-  Of a node
-  Refused are: `set`, `remove`, `load`
-  Because: the clock would pass 2^64 - 1
-  What to do: make the cluster anew: no call brings a clock there within a
-    lifetime; a message can
+  Node error
+  Affects: `set`, `remove`, `load`
+  Cause: the clock would pass 2^64 - 1
+  Fix: start a new run: only a forged or corrupt message can bring a clock
+    that far
 |N6 NotSet
-  Of a node
-  Refused are: `shift`, `grant`
-  Because: the point isn't set at this node
-  What to do: set it here, or deliver a message of a node that knows it
+  Node error
+  Affects: `shift`, `grant`
+  Cause: the point isn't set at this node
+  Fix: set it here, or wait for a message from a node that knows it
 |N7 NoSuchTerm
-  Of a node
-  Refused are: `shift`, `grant`
-  Because: the setting has no term of this number; terms count from 0
-  What to do: name a term that it has: `list` shows the text
+  Node error
+  Affects: `shift`, `grant`
+  Cause: the point has no term with this number; terms count from 0
+  Fix: use the number of one of its terms: `list` shows the action string
 |N8 NotCounted
-  Of a node
-  Refused are: `shift`, `grant`
-  Because: the term has no count, so it needs no rights
-  What to do: name a counted term, as the first one of `5*panic->off`
+  Node error
+  Affects: `shift`, `grant`
+  Cause: the term has no count, so it needs no rights
+  Fix: use a counted term, such as the first one of `5*panic->off`
 |N9 BadNode
-  Of a node
-  Refused are: `shift`, `emit`
-  Because: there is no such node in the cluster, or it is this one
-  What to do: name another node of the cluster; nodes count from 0
+  Node error
+  Affects: `shift`, `emit`
+  Cause: the cluster has no such node, or it is this node
+  Fix: use the number of another node; nodes count from 0
 |N10 ZeroAmount
-  Of a node
-  Refused are: `shift`, `grant`
-  Because: the amount is 0
-  What to do: name an amount of 1 at least
+  Node error
+  Affects: `shift`, `grant`
+  Cause: the amount is 0
+  Fix: use at least 1
 |N11 TooFewRights have=
-  Of a node
-  Refused are: `shift`
-  Because: this node has only so many rights of its own to give
-  What to do: shift at most that, have some moved here, or grant some first
+  Node error
+  Affects: `shift`
+  Cause: this node holds only so many rights
+  Fix: transfer at most that many, have some transferred here, or grant some
+    first
 |N12 CellFull
-  Of a node
-  Refused are: `shift`, `grant`
-  Because: what was moved between the two, or what the node granted itself,
-    in all, would pass 2^64 - 1
-  What to do: set the point again: another setting counts from nothing
+  Node error
+  Affects: `shift`, `grant`
+  Cause: the total that was transferred to that node, or that this node
+    granted itself, would pass 2^64 - 1
+  Fix: set the point again: a new version starts at zero
 |N14 BadWords need=
-  Of a node
-  Refused are: `pass`; with random draws, each other call that is given as a
-    value
-  Because: a pass needs a random draw for each term with a chance
-  What to do: give that many, each a number below 2^32
+  Node error
+  Affects: `pass`; also any other call that is given random draws
+  Cause: an evaluation takes one random draw for each term with a chance
+    below 100%, and no other call takes any
+  Fix: give exactly that many, each a number below 2^32
 |N16 BadMessage
-  Of a node
-  Refused are: `deliver`
-  Because: the bytes are no message of this cluster; the fault follows
-  What to do: see the code that follows, of W
+  Node error
+  Affects: `deliver`
+  Cause: the bytes are no message of this cluster; the message's own error
+    follows
+  Fix: see the code that follows, of W
 |N17 NotForMe
-  Of a node
-  Refused are: `deliver`
-  Because: the message is for another node
-  What to do: deliver it to the node that it was made for
+  Node error
+  Affects: `deliver`
+  Cause: the message is for another node
+  Fix: deliver it to the node that it was made for
 |N18 OwnAhead
-  Of a node
-  Refused are: `deliver`
-  Because: the message says more of this node than it knows itself: this
-    node has forgotten what it did, or the message is forged
-  What to do: don't start a node again under its old number
-    (docs/serving.md)
+  Node error
+  Affects: `deliver`
+  Cause: the message knows more about this node than the node itself: it
+    restarted without its journal, a second process runs under its number, or
+    the message is forged
+  Fix: end the other process; restart this one with its journal, or under a
+    number that was never used (docs/how-to/operate.md)
 |N19 AckAhead
-  Of a node
-  Refused are: `deliver`
-  Because: the message knows a version of this node that there isn't yet
-  What to do: as for N18: don't start a node again under its old number
+  Node error
+  Affects: `deliver`
+  Cause: the message acknowledges a version of this node that doesn't exist
+    yet
+  Fix: as for N18: restart with the journal, or use a number that was never
+    used
 |N20 Overspent
-  Of a node
-  Refused are: `deliver`
-  Because: with the message a term of a name that the message carries would
-    have run more often than its count and all that is known, the message's
-    own grants too, to have been granted; of a name that it doesn't carry
-    nothing is asked
-  What to do: look for the node or the message that didn't keep the rules,
-    as a node that was started again under its old number
+  Node error
+  Affects: `deliver`
+  Cause: accepting this message would show a term executed more often than
+    its count plus all known grants (only names in the message are checked)
+  Fix: find the node that restarted under an old number without its journal,
+    or the source of forged messages
 |N21 BadConfig
-  Of a node
-  Refused are: making a node
-  Because: the cluster hasn't 1 to 32 nodes, the node isn't one of them, or its
-    cap is above 2^56 - 1
-  What to do: give 1 to 32 nodes, a node below their number (nodes count from
-    0), and a smaller cap
+  Node error
+  Affects: creating a node
+  Cause: the cluster hasn't 1 to 32 nodes, the node number isn't below that,
+    or the call limit is above 2^56 - 1
+  Fix: use 1 to 32 nodes, a node number from 0, and a smaller limit
 |N22 OutOfMemory
-  Of a node
-  Refused are: each call that takes memory
-  Because: memory was refused
-  What to do: make the call again
+  Node error
+  Affects: every call that allocates
+  Cause: an allocation failed
+  Fix: repeat the call
 |N23 Differs index=
-  Of a node
-  Refused are: making a node of recorded calls
-  Because: the node of the calls before refuses the call of this number, which
-    counts from 0, or answers it otherwise than is recorded
-  What to do: give the record of this very node, as it was written: a call that
-    was altered or left out can't be made good
+  Node error
+  Affects: creating a node from recorded calls
+  Cause: replaying the recorded calls, this one (counted from 0) is rejected
+    or has another result
+  Fix: use the node's own journal, unchanged: an edited or missing call
+    can't be repaired
 |NoNode
-  Of a cluster
-  Refused are: each call; in a script each question too
-  Because: the cluster has no node of this number
-  What to do: name one that it has: nodes count from 0
+  Cluster error
+  Affects: every call; in a script every question too
+  Cause: the cluster has no node with this number
+  Fix: use the number of one of its nodes; nodes count from 0
 |NoMessage
-  Of a cluster
-  Refused are: `deliver`
-  Because: no message of this number was made
-  What to do: count the `emit`s that were accepted, from 0
+  Cluster error
+  Affects: `deliver`
+  Cause: no message has this number
+  Fix: count the accepted `emit` lines, from 0
 |V1 BindFailed
-  Of a node that is served
-  Because: the port can't be listened on: another program has it, this user
-    may not have it, or the process may open no more descriptors
-  What to do: take another port, or 0
+  Served node error
+  Cause: the port can't be listened on: it is in use or not permitted, the
+    address isn't this machine's, or no descriptors are left
+  Fix: choose another `--port`, or 0 to let the system pick
 |V2 AcceptFailed
-  Of a node that is served
-  Because: the system gives no sockets or no random keys to serve with.
-    Where it gives no descriptor for a client, that one waits
-  What to do: let the process open more descriptors: one for each client
-    that is served at once, and some ten besides
+  Served node error
+  Cause: the system provides no sockets or no random keys. A client that
+    finds no descriptor waits instead
+  Fix: raise the limit of open descriptors: one for each client served at
+    once, and about ten more
 |V3 OutOfMemory
-  Of a node that is served
-  Because: memory was refused to the service. Where it is refused to one
-    client, that one is answered 503 without a body or its connection is
-    closed, and the service goes on
-  What to do: let the process have more memory
+  Served node error
+  Cause: an allocation of the service failed. If it fails for one client,
+    that client is answered 503 or its connection is closed, and the service
+    continues
+  Fix: give the process more memory
 |V4 BadPart
-  Of a node that is served
-  Because: the file of `--record` isn't this node's part: it can't be opened
-    or read, its first line isn't that of this node, cap and run, or the node
-    doesn't answer the call of a line as it says. It is as it was
-  What to do: name a file that the program may write: the node's own part as
-    it was written, or a new one where nothing ran under its number yet
+  Served node error
+  Cause: the file of `--record` isn't this node's journal: it can't be
+    opened or read, its first line names another node, call limit or run, or a
+    call doesn't replay. It is unchanged
+  Fix: check the path and permissions; use the node's own journal, or a new
+    file for a number that was never used
 |V5 PartInUse
-  Of a node that is served
-  Because: the file of `--record` is open already. It is as it was
-  What to do: end what has it open, and give each node of the cluster a part
-    of its own
+  Served node error
+  Cause: another process has the file of `--record` open. It is unchanged
+  Fix: end that process, and give each node a journal of its own
 |V6 NotRecorded
-  Of a node that is served
-  Because: the part can't be begun, or its first points couldn't be recorded,
-    as on a full disk
-  What to do: see to where it is written, and start the node again
+  Served node error
+  Cause: the journal can't be started, or the first points couldn't be
+    written to it
+  Fix: free disk space or fix permissions, then restart the node
 |V7 BadKey
-  Of a node that is served
-  Because: the file of `--key-file` can't be read, has fewer than 32 or more
-    than 1,024 bytes, or others than its owner may use it
-  What to do: make it by `(umask 077; head -c 32 /dev/urandom >FILE)`, the
-    same on each machine
+  Served node error
+  Cause: the file of `--key-file` can't be read, has fewer than 32 or more
+    than 1,024 bytes, or its mode lets others use it
+  Fix: `chmod 600` it, or copy the cluster's key; create one by `(umask 077;
+    head -c 32 /dev/urandom >FILE)`, the same on each machine
 |A1 TooLong
-  Of an action text
-  Because: it has more than 1,024 bytes
-  What to do: shorten it: spaces and arguments count as well
+  Action string error
+  Cause: the string has more than 1,024 bytes
+  Fix: shorten it: spaces and arguments count
 |A2 TooManyTerms
-  Of an action text
-  Because: it has more than 16 terms
-  What to do: join 16 at most by `->`; one in an argument joins two as well
+  Action string error
+  Cause: the string has more than 16 terms
+  Fix: use at most 16; a `->` in an argument separates terms too
 |A3 Unclosed term=
-  Of an action text
-  Because: the term has a `(` and doesn't end with `)`
-  What to do: end the argument with `)`, as `print(hi)`; a `->` in it ends
-    the term
+  Action string error
+  Cause: the term has a `(` and doesn't end with `)`
+  Fix: close the argument, such as `print(hi)`; it can't contain `->`
 |A4 BadPercent term=
-  Of an action text
-  Because: before the first `%` don't stand 1 to 3 digits, perhaps with a
-    point and 1 to 4 more, of at most 100
-  What to do: write a chance as `50%` or `0.5%`
+  Action string error
+  Cause: the chance before the first `%` isn't a number from 0 to 100 with
+    at most 4 decimals
+  Fix: write it like `50%` or `0.5%`
 |A5 BadCount term=
-  Of an action text
-  Because: before the first `*` don't stand digits of at most 2^64 - 1
-  What to do: write a count as `5*`
+  Action string error
+  Cause: the count before the first `*` isn't a whole number of at most 2^64
+    - 1
+  Fix: write it like `5*`
 |A6 NoTask term=
-  Of an action text
-  Because: nothing stands where the task should
-  What to do: write a task there: no `->` stands before the first term or
-    behind the last
+  Action string error
+  Cause: the action is missing
+  Fix: write one of `off`, `return`, `sleep`, `panic`, `print`, `pause`,
+    `yield` and `delay`; no `->` stands at the start or the end
 |A7 UnknownTask term=
-  Of an action text
-  Because: the word is none of `off`, `return`, `sleep`, `panic`, `print`,
-    `pause`, `yield` and `delay`; between percent, count and task no space
-    stands
-  What to do: write one of these, in small letters
+  Action string error
+  Cause: the action isn't one of `off`, `return`, `sleep`, `panic`, `print`,
+    `pause`, `yield` and `delay`
+  Fix: write one of these, in lower case, with no space between chance,
+    count and action
 |A8 NeedsTime term=
-  Of an action text
-  Because: `sleep` or `delay` has no argument
-  What to do: write how many milliseconds, as `sleep(100)`
+  Action string error
+  Cause: `sleep` or `delay` has no argument
+  Fix: give milliseconds, such as `sleep(100)`
 |A9 BadTime term=
-  Of an action text
-  Because: the argument of `sleep` or `delay` isn't digits, in milliseconds,
-    of at most 2^64 - 1
-  What to do: write whole milliseconds, as `sleep(100)`
+  Action string error
+  Cause: the argument of `sleep` or `delay` isn't a whole number of
+    milliseconds of at most 2^64 - 1
+  Fix: write it like `sleep(100)`, without a unit
 |A10 BadByte offset=
-  Of an action text
-  Because: it has a byte below 0x20, 0x7f or a `;`
-  What to do: leave it out; in a setting text a `;` ends the entry
+  Action string error
+  Cause: the string has a control character or a `;`
+  Fix: remove it; a body that ends with a newline has one (`curl --data`
+    drops it, `--data-binary` doesn't)
 |A11 OutOfMemory
-  Of an action text
-  Because: memory was refused
-  What to do: ask again
+  Action string error
+  Cause: an allocation failed
+  Fix: try again
 |S1 TooLong
-  Of a setting text
-  Because: it has more than 65,536 bytes
-  What to do: set the points in several calls
+  FAILPOINTS string error
+  Cause: the string has more than 65,536 bytes
+  Fix: set the points in several calls
 |S2 NoEquals entry=
-  Of a setting text
-  Because: the entry has no `=`
-  What to do: write each entry as `<name>=<actions>`, with a `;` between two
+  FAILPOINTS string error
+  Cause: the entry has no `=`
+  Fix: write entries as `<name>=<actions>`, separated by `;`
 |S3 BadName entry=
-  Of a setting text
-  Because: what stands before the first `=` is no name
-  What to do: take 1 to 128 bytes of ASCII letters, digits, `_`, `-`, `.`
-    and `:`, with no space before the `=`
+  FAILPOINTS string error
+  Cause: what stands before the first `=` is no name
+  Fix: use 1 to 128 ASCII letters, digits, `_`, `-`, `.` and `:`, with no
+    space before the `=`
 |S4 BadActions entry=
-  Of a setting text
-  Because: what stands behind it is refused as an action text; the fault
-    follows, with offsets from there
-  What to do: see the code that follows, of A
+  FAILPOINTS string error
+  Cause: the action string after the `=` is wrong; its own error follows,
+    with offsets counted from there
+  Fix: see the code that follows, of A
 |S5 OutOfMemory
-  Of a setting text
-  Because: memory was refused
-  What to do: ask again
+  FAILPOINTS string error
+  Cause: an allocation failed
+  Fix: try again
 |W1 Magic offset=
-  Of a message
-  Because: it begins neither with the four bytes of a message without grants
-    (`FPG1`) nor with those of one that tells some (`FPG2`)
-  What to do: deliver what a node made, from its first byte on
+  Message error
+  Cause: the bytes start with neither `FPG1` nor `FPG2`
+  Fix: deliver a message of a node, from its first byte
 |W2 Short offset=
-  Of a message
-  Because: it ends before the end of this field
-  What to do: deliver it whole: its end is missing
+  Message error
+  Cause: the message ends before the end of this field
+  Fix: deliver it whole: its end is missing
 |W3 Long offset=
-  Of a message
-  Because: it goes on behind its last name
-  What to do: deliver one message at a time, and nothing behind it
+  Message error
+  Cause: there are bytes after the last name
+  Fix: deliver one message at a time, with nothing after it
 |W4 BadNode offset=
-  Of a message
-  Because: there is no node of this number, or something goes from a node to
-    itself
-  What to do: deliver it in the cluster that it was made in
+  Message error
+  Cause: no node has this number, or something goes from a node to itself
+  Fix: deliver it in the cluster that it was made in: check `--nodes`
 |W5 NameOrder offset=
-  Of a message
-  Because: the name isn't above the one before it
-  What to do: let a node send it anew: none makes such bytes
+  Message error
+  Cause: the name isn't above the one before it
+  Fix: the message is corrupt: request a new one from its sender (failreg
+    never produces this)
 |W6 BadName offset=
-  Of a message
-  Because: these are no 1 to 128 bytes of a name
-  What to do: let a node send it anew: none makes such bytes
+  Message error
+  Cause: these bytes are no name
+  Fix: the message is corrupt: request a new one from its sender (failreg
+    never produces this)
 |W7 BadBody offset=
-  Of a message
-  Because: what says whether the point is set or removed is neither
-  What to do: let a node send it anew: none makes such bytes
+  Message error
+  Cause: the field that says whether the point is set or removed is neither
+  Fix: the message is corrupt: request a new one from its sender (failreg
+    never produces this)
 |W8 NotCanonical offset=
-  Of a message
-  Because: this isn't the canonical text of actions
-  What to do: let a node send it anew: none makes such bytes
+  Message error
+  Cause: this isn't a canonical action string
+  Fix: the message is corrupt: request a new one from its sender (failreg
+    never produces this)
 |W9 CellOrder offset=
-  Of a message
-  Because: the cell isn't above the one before it
-  What to do: let a node send it anew: none makes such bytes
+  Message error
+  Cause: the cell isn't above the one before it
+  Fix: the message is corrupt: request a new one from its sender (failreg
+    never produces this)
 |W10 ZeroCell offset=
-  Of a message
-  Because: the number is 0
-  What to do: let a node send it anew: none makes such bytes
+  Message error
+  Cause: the number is 0
+  Fix: the message is corrupt: request a new one from its sender (failreg
+    never produces this)
 |W11 BadTerm offset=
-  Of a message
-  Because: the setting has no counted term of this number
-  What to do: let a node send it anew: none makes such bytes
+  Message error
+  Cause: the point has no counted term with this number
+  Fix: the message is corrupt: request a new one from its sender (failreg
+    never produces this)
 |W12 TooBig offset=
-  Of a message
-  Because: it has more than 67,108,864 bytes, which is the offset
-  What to do: let a node send it anew: none makes one so long
+  Message error
+  Cause: the message has more than 67,108,864 bytes, which is the offset
+  Fix: the message is corrupt: request a new one from its sender (failreg
+    never produces this)
 |W13 OutOfMemory
-  Of a message
-  Because: memory was refused
-  What to do: deliver it again
+  Message error
+  Cause: an allocation failed
+  Fix: deliver it again
 |W14 NoGrant offset=
-  Of a message
-  Because: it begins as one that tells grants (at the offset, 0), and tells
-    none: a message has one spelling
-  What to do: let a node send it anew: none makes such bytes
+  Message error
+  Cause: the message starts with `FPG2`, for grants, and has none
+  Fix: the message is corrupt: request a new one from its sender (failreg
+    never produces this)
 |P1 TooLong
-  Of a script or a drill
-  Because: the script has more than 16,777,216 bytes
-  What was written: nothing
-  What to do: shorten it: comments and empty lines count as well
+  Script or recording error
+  Cause: the script has more than 16,777,216 bytes
+  Written: nothing
+  Fix: shorten it: comments and empty lines count
 |P2 ReadFailed
-  Of a script or a drill
-  Because: the script or the drill can't be read
-  What was written: nothing
-  What to do: give one that is there and may be read
+  Script or recording error
+  Cause: the script or recording can't be read
+  Written: nothing
+  Fix: check the path and permissions
 |P3 WriteFailed
-  Of a script or a drill
-  Because: the answers can't be written, or not flushed; or the drill can't
-    be kept
-  What was written: a prefix of them
-  What to do: see whether the disk is full, or the reader gone; `--record`
-    writes over a file that is there only with `--force`
+  Script or recording error
+  Cause: the answers can't be written or flushed, or the recording can't be
+    kept
+  Written: a prefix of them
+  Fix: check whether the disk is full or the reader has ended; `--record`
+    overwrites an existing file only with `--force`
 |P4 OutOfMemory
-  Of a script or a drill
-  Because: memory was refused
-  What was written: nothing
-  What to do: let the process have more memory
+  Script or recording error
+  Cause: an allocation failed
+  Written: nothing
+  Fix: give the process more memory
 |P5 BadLine line=
-  Of a script or a drill
-  Because: a line of a script of `threads`, of a drill or of a part can't be
-    read or stands out of its place. Lines count from 1, skipped ones too;
-    where the seed is missing, it is the line behind the last
-  What was written: nothing
-  What to do: mend the line: `failreg threads --help` has each form; a drill
-    or a part is audited as it was written
+  Script or recording error
+  Cause: a line of a script of `threads`, of a recording or of a journal
+    can't be read or is out of place. Lines count from 1, skipped ones too; if
+    the seed is missing, it is the line after the last
+  Written: nothing
+  Fix: correct the line: `failreg threads --help` has each form; pass
+    recordings and journals unchanged
 |P6 OtherDrill file=
-  Of a script or a drill
-  Because: a part has another run or another number of nodes than the first.
-    It is the first such file, counted from 1
-  What was written: nothing
-  What to do: give the parts of one run: standard error names the file
+  Script or recording error
+  Cause: a journal has another run ID or another number of nodes than the
+    first. It is the first such file, counted from 1
+  Written: nothing
+  Fix: pass the journals of one run: standard error names the file
 |P7 SamePart node=
-  Of a script or a drill
-  Because: two files have a part of this node, the least such
-  What was written: nothing
-  What to do: give one part of each node
+  Script or recording error
+  Cause: two files are journals of this node
+  Written: nothing
+  Fix: pass one journal of each node
 |P8 NoPart node=
-  Of a script or a drill
-  Because: no file has a part of this node, the least such
-  What was written: nothing
-  What to do: give one part of each node: that of a node that did nothing is
-    its first line alone
+  Script or recording error
+  Cause: no file is a journal of this node
+  Written: nothing
+  Fix: pass one journal of each node, even of one that did nothing
 |X1 BadConfig
-  Of an audit
-  Because: the cluster hasn't 1 to 32 nodes, or there isn't a trace for each
-    of them
-  What to do: give the traces in the order of the nodes, an empty one for a
-    node that did nothing
+  Audit error
+  Cause: the cluster hasn't 1 to 32 nodes, or there isn't one call log for
+    each
+  Fix: pass the call logs in the order of the nodes, an empty one for a node
+    that did nothing
 |X2 WrongReply node= index=
-  Of an audit
-  Because: a node that starts anew and is asked what the trace says doesn't
-    give this entry: it refuses, or replies otherwise. It is the first such
-    entry of the least such node; indices count from 0
-  What to do: give the trace that the node kept: this one was altered, or
-    isn't one node's from its start on
+  Audit error
+  Cause: replaying the node's calls gives a different result at this entry
+    (counted from 0), the first one of the lowest node
+  Fix: pass the call log that the node kept: this one was edited, or isn't
+    one node's from its start
 |X3 Stuck node= index=
-  Of an audit
-  Because: no schedule fits the traces: in whatever order entries are
-    placed, no node goes on, and this is the next entry of the least node
-    that has one left. It delivers bytes that no entry before it emitted
-  What to do: give all traces of one drill: one of another is among them, or
-    a message came from outside
+  Audit error
+  Cause: the recorded calls can't be ordered: this entry delivers a message
+    that no earlier entry sent
+  Fix: pass all journals of one run; messages from outside the run fail too
 |X4 ReceiptDiffers
-  Of an audit
-  Because: a receipt names no entry, or says something else than its entry
-  What to do: look at the caller: it was told something else than what the
-    node recorded
+  Audit error
+  Cause: a receipt names no entry, or differs from its entry
+  Fix: look at the caller: it was told something else than what the node
+    recorded
 |X5 ReceiptTwice
-  Of an audit
-  Because: an entry has two receipts
-  What to do: give each receipt once
+  Audit error
+  Cause: an entry has two receipts
+  Fix: pass each receipt once
 |X6 ReceiptMissing
-  Of an audit
-  Because: an entry has no receipt
-  What to do: give all lists, also that of what was called before the
-    workers
+  Audit error
+  Cause: an entry has no receipt
+  Fix: pass all lists, also that of the calls before the workers
 |X7 OutOfMemory
-  Of an audit
-  Because: memory was refused
-  What to do: audit again
+  Audit error
+  Cause: an allocation failed
+  Fix: audit again
 |X8 OutOfOrder list= place=
-  Of an audit
-  Because: a list holds what one caller was told, in the order of its calls,
-    and the receipt at this place isn't of a later entry than one before it
-    of the same node. It is the first such place of the first such list;
-    both count from 0
-  What to do: give each caller's receipts as a list of their own; else the
+  Audit error
+  Cause: the receipt at this place of this list (both counted from 0) isn't
+    of a later entry than an earlier one of the same node
+  Fix: pass each caller's receipts as a list of their own; otherwise the
     caller was served out of its order
 |B1 TooFewRights have=
-  Of a counter
-  Because: the node has only so many rights
-  What to do: ask for at most that
+  Counter error
+  Cause: the node holds only so many rights
+  Fix: ask for at most that many
 |B2 CellFull
-  Of a counter
-  Because: the number would pass 2^64 - 1
-  What to do: begin another budget
+  Counter error
+  Cause: the number would pass 2^64 - 1
+  Fix: start another budget
 |B3 ZeroAmount
-  Of a counter
-  Because: the amount is 0
-  What to do: name an amount of 1 at least
+  Counter error
+  Cause: the amount is 0
+  Fix: use at least 1
 |B4 SameNode
-  Of a counter
-  Because: the rights would go from a node to itself
-  What to do: name another node
+  Counter error
+  Cause: rights would go from a node to itself
+  Fix: use another node
 |B5 OutOfMemory
-  Of a counter
-  Because: memory was refused
-  What to do: ask again
+  Counter error
+  Cause: an allocation failed
+  Fix: try again
 ";

@@ -76,32 +76,33 @@ impl ErrorKind {
     /// What to do about it.
     fn advice(self) -> &'static str {
         match self {
-            ErrorKind::CapReached => "open a node with a greater cap: it holds for a node's life",
+            ErrorKind::CapReached => "start a new run with a greater limit: it holds for a node's life",
             ErrorKind::BadName => "a name is 1 to 128 ASCII letters, digits, `_`, `-`, `.` and `:`",
             ErrorKind::BadText => {
                 "write actions as `20%3*return(text)->off`, with one of off, return, sleep, panic, \
                  print, pause, yield and delay, and several points as `name=actions;name=actions`"
             }
             ErrorKind::TooManyPoints => {
-                "a node holds 256 names in its life, removed ones too: use one of them again"
+                "a node holds 256 names in its life, removed ones included: reuse one of them"
             }
-            ErrorKind::NotSet => "set it here, or deliver a message of a node that has it",
+            ErrorKind::NotSet => "set it here, or wait for a message from a node that has it",
             ErrorKind::BadArgument => {
                 "give a term that has a count (the first is 0), another node of the cluster, and \
                  an amount above 0"
             }
-            ErrorKind::TooFewRights => "shift at most that, or grant some first",
-            ErrorKind::NumberFull => "begin a new cluster",
+            ErrorKind::TooFewRights => "transfer at most that many, or grant some first",
+            ErrorKind::NumberFull => "start a new run",
             ErrorKind::BadMessage => "deliver the whole bytes that a node of this cluster emitted",
             ErrorKind::WrongReceiver => "deliver it to the node that it was emitted to",
-            ErrorKind::Forgotten => "don't start a node again under a number that was used",
-            ErrorKind::Overspent => "a node or a message didn't keep the rules: leave it out",
+            ErrorKind::Forgotten => "restart with the node's journal, or use a number that was never used",
+            ErrorKind::Overspent => "find the node that restarted without its journal, or the source of forged messages",
             ErrorKind::BadConfig => {
                 "a cluster has 1 to 32 nodes, and the number of a node is below that"
             }
-            ErrorKind::OutOfMemory => "make the call again",
+            ErrorKind::OutOfMemory => "repeat the call",
             ErrorKind::NotHeard => {
-                "calls are taken once each other node was heard: see that it runs and tells this one"
+                "changes are accepted once every other node has sent a message: check that it runs, and \
+                 has this node as a peer"
             }
             ErrorKind::Closed => "open another",
             ErrorKind::AlreadyOpen => "set it up before anything else uses the program's points",
@@ -113,19 +114,19 @@ impl ErrorKind {
                 "make it by `(umask 077; head -c 32 /dev/urandom >FILE)`: it has 32 to 1024 bytes, \
                  and is its owner's alone"
             }
-            ErrorKind::CantListen => "give one where nobody listens, or port 0 for a free one",
+            ErrorKind::CantListen => "choose a free port, or 0 to let the system pick",
             ErrorKind::BadPeer => "name each other node of the cluster once, by its number",
             ErrorKind::NoThread => "let the process have more threads, or more memory",
             ErrorKind::NotRecorded | ErrorKind::RecordingFailed => {
-                "see to where it is written; then a node goes on from its part, and a drill takes \
-                 another cluster with a new recorder"
+                "free disk space or fix permissions, then restart: a node resumes from its journal, a \
+                 recording needs a new recorder"
             }
             ErrorKind::BadPart => {
-                "name a file that the program may write: the node's own part as it was written, or a \
-                 new one where nothing ran under its number yet"
+                "check the path and permissions; use the node's own journal, or a new file for a number \
+                 that was never used"
             }
             ErrorKind::PartInUse => {
-                "end what has it open, and give each node of the cluster a part of its own"
+                "end that process, and give each node a journal of its own"
             }
             ErrorKind::BadRecorder => {
                 "give each cluster a recorder of its own, and each of its nodes once"

@@ -163,8 +163,9 @@ impl Pace {
         }
         self.said = Some(Instant::now());
         eprintln!(
-            "failreg: node {node} has forgotten what it did (it answers {fault}): it was started again \
-             without its part: end it, and start it from its part, or under a number that was never used"
+            "failreg: node {node} lost its state (it answers {fault}): it restarted without its journal, or \
+             a second process runs under its number. End it, and restart it with its journal, or under a \
+             number that was never used."
         );
     }
 

@@ -136,8 +136,8 @@ macro_rules! fail_point {
 
 // The code of a page, which is tried with the other examples.
 #[cfg(all(doctest, feature = "failpoints"))]
-#[doc = include_str!("../../../../docs/carriers.md")]
-struct Carriers;
+#[doc = include_str!("../../../../docs/how-to/custom-transport.md")]
+struct CustomTransport;
 
 // A point whose name is spelled out keeps beside it what was found of it.
 #[doc(hidden)]

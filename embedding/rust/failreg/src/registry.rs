@@ -578,9 +578,9 @@ impl Registry {
         let number = self.made.number;
         let fault = error.fault();
         eprintln!(
-            "failreg: others know more of node {number} than it does ({fault}): it was started again \
-             and has forgotten what it did; its failpoints do nothing from now on: start it from its \
-             part, or under a number that was never used"
+            "failreg: peers have newer state of node {number} ({fault}): it restarted without its journal, \
+             or a second process runs under its number. Its failpoints do nothing from now on. End the \
+             other process, restart with FAILREG_RECORD, or use a number that was never used."
         );
     }
 
