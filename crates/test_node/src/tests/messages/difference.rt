@@ -82,7 +82,7 @@ fn receive<R: Replica>(
     Ok(versioned.receive(alloc, &message)?)
 }
 
-/// What a node has to tell the other node, in print.
+/// The pending message of a node to the other, in print.
 fn pending<R: Replica>(
     alloc: Global,
     versioned: &Versioned<R>,
