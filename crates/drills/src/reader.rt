@@ -62,8 +62,7 @@ fn whole(so_far: Option<SoFar>) -> Option<Drill>
     Some(so_far?.drill)
 }
 
-/// Reads a drill to its end, line by line: it may have any number of lines, each of any length. A
-/// trace of more than 2^32 calls is out of memory.
+/// Reads a drill to its end, line by line: it may have any number of lines, each of any length.
 pub fn read_drill<I: Read>(
     alloc: Global,
     reader: &mut BufReader<Watched<I>>,

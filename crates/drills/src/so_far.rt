@@ -116,7 +116,9 @@ fn start_list(
     }
 }
 
-/// Puts an entry behind a trace, which holds 2^32 calls at most: one more is out of memory.
+/// Puts an entry after the calls of a trace.
+///
+/// Errors: out of memory.
 pub(crate) fn add_entry(trace: &mut Trace, entry: Entry) -> Result<(), AllocError>
     ensures { OnOk result (trace.new.calls ≡ trace.old.calls ++ told entry ∷ []) }
 {

@@ -1,5 +1,5 @@
 -- What is kept stands for the same calls where rows or entries are put behind.
-use Rattle.std.proofs.Common.{◌≡◌, ℕ, ◌<◌, ◌≤◌, ◌+◌, zero, suc, arith, List, [], ◌∷◌, ◌++◌, length, length-append, take, map, refl, sym, ◌∙◌, ap, subst, Some, None}
+use Rattle.std.proofs.Common.{◌≡◌, ℕ, ◌<◌, ◌≤◌, ◌+◌, ◌/◌, ◌%◌, ◌^◌, zero, suc, arith, List, [], ◌∷◌, ◌++◌, length, length-append, take, map, refl, sym, ◌∙◌, ap, subst, Some, None}
 use Rattle.std.specs.Prelude.{slice_get, slice_index_or}
 use Rattle.std.proofs.lemmas.List.{length-map, map-append}
 use Rattle.std.proofs.lemmas.List.Elements.{All-push}
@@ -8,7 +8,7 @@ use Rattle.node_calls.specs.declared.trace.Entry.{Entry}
 use Rattle.packed_trace.specs.declared.row.Row.{Row}
 use Rattle.packed_trace.specs.declared.trace.Slot.{Slot}
 use Rattle.packed_trace.specs.declared.trace.Slot.TheVariants as slots
-use Rattle.packed_trace.specs.Packed.{AreKept, IsKept, entry_by, pass_by, row_told, told_by}
+use Rattle.packed_trace.specs.Packed.{AreKept, IsKept, entry_by, entry_number, entry_slot, pass_by, row_told, told_by}
 
 pub get_before : {A : Type 0} (xs : List A) (y : A) (i : ℕ) → i < length xs → slice_get (xs ++ y ∷ []) i ≡ slice_get xs i
 get_before [] y i low = absurd (omega (arith, low))
@@ -29,21 +29,26 @@ kept_more rows more entries kept le is = λ k d low. one (slice_index_or kept k 
     one (slots.Term term row) h = omega (arith, le, h)
     one (slots.NoTermDrawn row word) h = omega (arith, le, h)
     one (slots.TermDrawn term row word) h = omega (arith, le, h)
-    one (slots.Entry index) h = h
+    one (slots.Entry high middle low) h = h
+
+-- the number of an entry again, by the parts that its slot has
+number_again : (n : ℕ) → entry_number (n / 2 ^ 48) (n / 2 ^ 32 % 2 ^ 16) (n % 2 ^ 32) ≡ n
+number_again n = omega arith
 
 -- what is kept with an entry more, which comes last
 pub kept_with_entry : (rows entries : ℕ) (kept : List Slot) → AreKept rows entries kept →
-    AreKept rows (entries + 1) (kept ++ slots.Entry entries ∷ [])
+    AreKept rows (entries + 1) (kept ++ entry_slot entries ∷ [])
 kept_with_entry rows entries kept is =
-    All-push (IsKept rows (entries + 1)) kept (slots.Entry entries)
-    (λ k d low. one (slice_index_or kept k d) (is k d low)) (omega arith)
+    let last = number_again entries in
+    All-push (IsKept rows (entries + 1)) kept (entry_slot entries)
+    (λ k d low. one (slice_index_or kept k d) (is k d low)) (omega (arith, last))
   where
     one : (slot : Slot) → IsKept rows entries slot → IsKept rows (entries + 1) slot
     one (slots.NoTerm row) h = h
     one (slots.Term term row) h = h
     one (slots.NoTermDrawn row word) h = h
     one (slots.TermDrawn term row word) h = h
-    one (slots.Entry index) h = omega (arith, h)
+    one (slots.Entry high middle low) h = omega (arith, h)
 
 -- functions that agree on what is kept
 map_kept : (rows entries : ℕ) (f g : Slot → Told) (kept : List Slot) → AreKept rows entries kept →
@@ -73,7 +78,7 @@ module _ (rows : List Row) (entries : List Entry) where
   row_same row (slots.NoTermDrawn at word) is = ap (λ found. pass_by found None (Some word)) (row_found row at is)
   row_same row (slots.TermDrawn term at word) is =
       ap (λ found. pass_by found (Some term) (Some word)) (row_found row at is)
-  row_same row (slots.Entry index) is = refl
+  row_same row (slots.Entry high middle low) is = refl
 
   pub rows_stay : (row : Row) (kept : List Slot) → AreKept (length rows) (length entries) kept →
       map (with_row row) kept ≡ map before kept
@@ -88,21 +93,24 @@ module _ (rows : List Row) (entries : List Entry) where
   entry_same entry (slots.Term term at) is = refl
   entry_same entry (slots.NoTermDrawn at word) is = refl
   entry_same entry (slots.TermDrawn term at word) is = refl
-  entry_same entry (slots.Entry index) is =
+  entry_same entry (slots.Entry high middle low) is =
+      let number = entry_number high middle low in
       ap entry_by
-      (ap (λ es. slice_get es index) (map-append told entries (entry ∷ [])) ∙
-      get_before (map told entries) (told entry) index (subst (λ n. index < n) (sym (length-map entries told)) is))
+      (ap (λ es. slice_get es number) (map-append told entries (entry ∷ [])) ∙
+      get_before (map told entries) (told entry) number (subst (λ n. number < n) (sym (length-map entries told)) is))
 
   pub entry_comes : (entry : Entry) (kept : List Slot) → AreKept (length rows) (length entries) kept →
-      map (with_entry entry) (kept ++ slots.Entry (length entries) ∷ []) ≡ map before kept ++ told entry ∷ []
+      map (with_entry entry) (kept ++ entry_slot (length entries) ∷ []) ≡ map before kept ++ told entry ∷ []
   entry_comes entry kept is =
       let old = map_kept (length rows) (length entries) (with_entry entry) before kept is (entry_same entry) in
       let found : slice_get (map told (entries ++ entry ∷ [])) (length entries) ≡ Some (told entry) =
       ap (λ es. slice_get es (length entries)) (map-append told entries (entry ∷ [])) ∙
       subst (λ n. slice_get (map told entries ++ told entry ∷ []) n ≡ Some (told entry))
       (length-map entries told) (get_last (map told entries) (told entry)) in
-      map-append (with_entry entry) kept (slots.Entry (length entries) ∷ []) ∙
-      ap (λ xs. xs ++ with_entry entry (slots.Entry (length entries)) ∷ []) old ∙
+      let last = number_again (length entries) in
+      map-append (with_entry entry) kept (entry_slot (length entries) ∷ []) ∙
+      ap (λ xs. xs ++ with_entry entry (entry_slot (length entries)) ∷ []) old ∙
+      ap (λ n. map before kept ++ entry_by (slice_get (map told (entries ++ entry ∷ [])) n) ∷ []) last ∙
       ap (λ o. map before kept ++ entry_by o ∷ []) found
 
 -- so many first ones, and the next one

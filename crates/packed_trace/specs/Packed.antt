@@ -1,5 +1,5 @@
 -- What a packed trace stands for: the list of what its calls tell.
-use Rattle.std.specs.Prelude.{ℕ, ◌<◌, ◌^◌, false, List, [], ◌∷◌, length, slice_get, Option, Some, None, option_map, All}
+use Rattle.std.specs.Prelude.{ℕ, ◌+◌, ◌*◌, ◌/◌, ◌%◌, ◌<◌, ◌^◌, false, List, [], ◌∷◌, length, slice_get, Option, Some, None, option_map, All}
 use Rattle.actions.specs.Value.{TermValue}
 use Rattle.stamp_register.specs.declared.key.Stamp.{Stamp}
 use Rattle.node_calls.specs.Told.{Told, Passed, ReplyTold, Unset, NoTerm, Act, passes, emits, was_passed, was_delivered, told}
@@ -17,8 +17,9 @@ use Rattle.packed_trace.specs.declared.trace.Slot.TheVariants as slots
 abbrev pub max_rows : ℕ
 max_rows = 65536
 
+-- the numbers of entries, for which a slot has room
 abbrev pub max_entries : ℕ
-max_entries = 2 ^ 32
+max_entries = 2 ^ 56
 
 -- the stamp of a setting, and its terms
 abbrev pub SettingTold : Type 0
@@ -99,13 +100,20 @@ abbrev pub entry_by : Option Told → Told
 entry_by None = no_call
 entry_by (Some t) = t
 
+-- the number of an entry, by the parts that its slot has, and its slot by its number
+abbrev pub entry_number : ℕ → ℕ → ℕ → ℕ
+entry_number high middle low = high * 2 ^ 48 + middle * 2 ^ 32 + low
+
+abbrev pub entry_slot : ℕ → Slot
+entry_slot number = slots.Entry (number / 2 ^ 48) (number / 2 ^ 32 % 2 ^ 16) (number % 2 ^ 32)
+
 -- what a slot stands for
 abbrev pub told_by : List RowTold → List Told → Slot → Told
 told_by rows entries (slots.NoTerm row) = pass_by (slice_get rows row) None None
 told_by rows entries (slots.Term term row) = pass_by (slice_get rows row) (Some term) None
 told_by rows entries (slots.NoTermDrawn row word) = pass_by (slice_get rows row) None (Some word)
 told_by rows entries (slots.TermDrawn term row word) = pass_by (slice_get rows row) (Some term) (Some word)
-told_by rows entries (slots.Entry index) = entry_by (slice_get entries index)
+told_by rows entries (slots.Entry high middle low) = entry_by (slice_get entries (entry_number high middle low))
 
 -- its row or its entry is there
 abbrev pub IsKept : ℕ → ℕ → Slot → Type 0
@@ -113,7 +121,7 @@ IsKept rows entries (slots.NoTerm row) = row < rows
 IsKept rows entries (slots.Term term row) = row < rows
 IsKept rows entries (slots.NoTermDrawn row word) = row < rows
 IsKept rows entries (slots.TermDrawn term row word) = row < rows
-IsKept rows entries (slots.Entry index) = index < entries
+IsKept rows entries (slots.Entry high middle low) = entry_number high middle low < entries
 
 abbrev pub AreKept : ℕ → ℕ → List Slot → Type 0
 AreKept rows entries kept = All (IsKept rows entries) kept

@@ -17,4 +17,4 @@ mod trace;
 pub use pass::{Pass, Prepared};
 pub use row::{Row, Setting, SettingRef};
 pub use seen::Seen;
-pub use trace::{MAX_ENTRIES, MAX_ROWS, Trace};
+pub use trace::{MAX_ROWS, Trace};

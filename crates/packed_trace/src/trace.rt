@@ -9,6 +9,7 @@ ghost use Rattle.std.specs.Prelude.{IfOk, IfSome, IsNone, IsOk, OnOk, OnErr};
 ghost use Rattle.node_calls.specs.Told.{told};
 ghost use Rattle.packed_trace.specs.Packed.{IsByRow, IsPrepared, pass_by, pass_value, prepared_told, row_of, row_told};
 ghost use Rattle.packed_trace.specs.Packed.{seen_told, setting_ref_told, max_rows};
+ghost use Rattle.packed_trace.specs.Packed.{entry_number, entry_slot};
 
 use crate::guesses::Guesses;
 use crate::heads::Heads;
@@ -19,23 +20,29 @@ use actions::Name;
 use node_calls::Entry;
 use std::alloc::{AllocError, Global};
 use std::marker::Model;
+use std::mem::size_of;
 
 /// The most rows of a trace.
 pub const MAX_ROWS: usize = 65_536;
 
-/// The most calls of a trace that are kept as entries.
-pub const MAX_ENTRIES: usize = 4_294_967_296;
+// The slot of an entry has room for the numbers below this one.
+const MAX_ENTRIES: usize = 72_057_594_037_927_936;
+
+// So many entries have 2^63 bytes, which no vector has.
+const _: () = prove!(size_of::<Entry>() >= 128);
 
 // A call as it is kept, in eight bytes: a pass by its row, with the term that was triggered and its
-// random draw, where it has them; another call by its place among those.
+// random draw, if it has them; another call by its number among those, in three parts.
 #[derive(Clone, Copy, Debug)]
 enum Slot {
     NoTerm { row: u16 },
     Term { term: u8, row: u16 },
     NoTermDrawn { row: u16, word: u32 },
     TermDrawn { term: u8, row: u16, word: u32 },
-    Entry { index: u32 },
+    Entry { high: u8, middle: u16, low: u32 },
 }
+
+const _: () = prove!(size_of::<Slot>() == 8);
 
 /// The accepted calls of a node, the first one first.
 #[derive(Debug)]
@@ -77,6 +84,25 @@ impl Model for Trace {
 
     ghost invariant = { λ t. AreKept (length t.rows.items) (length t.entries.items) t.slots.items
         × AreHeads t.heads (map row_told t.rows.items) };
+}
+
+// The slot of an entry by its number.
+fn entry_slot(number: usize) -> Slot
+    requires { number < 2 ^ 56 }
+    ensures { result ≡ entry_slot number }
+{
+    Slot::Entry {
+        high: (number / 281_474_976_710_656) as u8,
+        middle: (number / 4_294_967_296 % 65_536) as u16,
+        low: (number % 4_294_967_296) as u32,
+    }
+}
+
+// The number of an entry by the parts in its slot.
+fn entry_number(high: u8, middle: u16, low: u32) -> usize
+    ensures { result ≡ entry_number high middle low }
+{
+    high as usize * 281_474_976_710_656 + middle as usize * 4_294_967_296 + low as usize
 }
 
 fn pass_of(rows: &[Row], row: u16, term: Option<u8>, word: Option<u32>) -> Seen<'_>
@@ -148,7 +174,9 @@ impl Trace {
             Slot::Term { term, row } => pass_of(rows, row, Some(term), None),
             Slot::NoTermDrawn { row, word } => pass_of(rows, row, None, Some(word)),
             Slot::TermDrawn { term, row, word } => pass_of(rows, row, Some(term), Some(word)),
-            Slot::Entry { index } => Seen::Entry(&self.entries[index as usize]),
+            Slot::Entry { high, middle, low } => {
+                Seen::Entry(&self.entries[entry_number(high, middle, low)])
+            }
         })
     }
 
@@ -349,14 +377,16 @@ impl Trace {
         });
     }
 
-    /// Makes room for an entry. No call changes. Where there are as many entries as there may be, it is
-    /// refused as out of memory.
+    /// Makes room for an entry. No call changes.
+    ///
+    /// Errors: out of memory.
     pub fn reserve_entry(&mut self) -> Result<(), AllocError>
         ensures ok { OnOk result ((0 < self.new.pass_room) × (0 < self.new.entry_room)) }
         ensures calls { self.new.calls ≡ self.old.calls }
         ensures rows { self.new.rows ≡ self.old.rows }
         ensures succeeds { 0 < self.old.pass_room → 0 < self.old.entry_room → IsOk result }
     {
+        // The vector refuses to grow to so many.
         if self.entries.len() >= MAX_ENTRIES {
             return Err(AllocError);
         }
@@ -370,13 +400,14 @@ impl Trace {
         ensures calls { self.new.calls ≡ self.old.calls ++ told entry ∷ [] }
         ensures rows { self.new.rows ≡ self.old.rows }
     {
-        let index = self.entries.len() as u32;
+        let number = self.entries.len();
         self.entries.push_reserved(entry);
-        self.slots.push_reserved(Slot::Entry { index });
+        self.slots.push_reserved(entry_slot(number));
     }
 
-    /// A trace of these entries. The only error is out of memory, as which more than `MAX_ENTRIES` are
-    /// refused too.
+    /// A trace of these entries.
+    ///
+    /// Errors: out of memory.
     pub fn of_entries(alloc: Global, entries: Vec<Entry>) -> Result<Trace, AllocError>
         ensures { IfOk result (λ trace. trace.calls ≡ map told entries.items) }
     {

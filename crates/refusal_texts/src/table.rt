@@ -7,11 +7,9 @@ N1 TraceFull
   Node error
   Affects: every call except readers (`list`, `report`, `rights`, `spent`,
     `hits`)
-  Cause: the node has accepted as many calls as its call limit, or keeps
-    2^32 of them
+  Cause: the node has accepted as many calls as its call limit
   Fix: start a new run with a greater limit (`--no-cap`): a limit is for the
-    node's whole life. A program that keeps its calls can discard or give them
-    away. Readers and rejected calls don't count
+    node's whole life. Readers and rejected calls don't count
 |N2 BadName
   Node error
   Affects: `set`, `remove`, `load`, `pass`, `shift`, `grant`

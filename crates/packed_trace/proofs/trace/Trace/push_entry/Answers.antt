@@ -1,8 +1,8 @@
-use Rattle.std.proofs.Common.{◌≡◌, ◌∙◌, ℕ, List, [], ◌∷◌, ◌++◌, length, length-append, map, ap, rules}
+use Rattle.std.proofs.Common.{◌≡◌, ◌∙◌, List, [], ◌∷◌, ◌++◌, length, length-append, map, ap, rules}
 use Rattle.node_calls.specs.Told.{told}
 use Rattle.node_calls.specs.declared.trace.Entry.{Entry as AnEntry}
-use Rattle.packed_trace.specs.declared.trace.Slot.TheVariants.{Entry}
-use Rattle.packed_trace.specs.Packed.{Packed, row_told, told_by}
+use Rattle.packed_trace.specs.declared.trace.Slot.{Slot}
+use Rattle.packed_trace.specs.Packed.{Packed, entry_slot, row_told, told_by}
 use Rattle.packed_trace.proofs.Stays.{entry_comes, kept_with_entry}
 use Rattle.packed_trace.proofs.trace.Trace.push_entry.Goals as goal
 
@@ -11,8 +11,9 @@ returns-clause-calls c =
     let rows = map row_told c.self.inside.rows.items in
     let entries = c.self.inside.entries.items in
     let slots = c.self.inside.slots.items in
-    let index : c.len-index.result ≡ length entries = search rules in
-    let put = c.push_reserved-2.ensures.items ∙ ap (λ (n : ℕ). slots ++ Entry n ∷ []) index in
+    let number : c.len-number.result ≡ length entries = search rules in
+    let put = c.push_reserved-2.ensures.items ∙ ap (λ (slot : Slot). slots ++ slot ∷ [])
+    (c.entry_slot.ensures ∙ ap entry_slot number) in
     ap (λ (es : List AnEntry). map (told_by rows (map told es)) c.push_reserved-2.new.self.items)
     c.push_reserved.ensures.items ∙
     ap (map (told_by rows (map told (entries ++ c.args.entry ∷ [])))) put ∙
@@ -26,8 +27,9 @@ pub invariant_of-self : goal.invariant_of-self
 invariant_of-self c =
     let entries = c.self.inside.entries.items in
     let slots = c.self.inside.slots.items in
-    let index : c.len-index.result ≡ length entries = search rules in
-    let put = c.push_reserved-2.ensures.items ∙ ap (λ (n : ℕ). slots ++ Entry n ∷ []) index in
+    let number : c.len-number.result ≡ length entries = search rules in
+    let put = c.push_reserved-2.ensures.items ∙ ap (λ (slot : Slot). slots ++ slot ∷ [])
+    (c.entry_slot.ensures ∙ ap entry_slot number) in
     let grown = ap (λ (es : List AnEntry). length es) c.push_reserved.ensures.items ∙
     length-append entries (c.args.entry ∷ []) in (
       rw (put, grown) (kept_with_entry (length c.self.inside.rows.items) (length entries) slots c.self.invariant.0),
