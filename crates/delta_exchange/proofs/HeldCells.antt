@@ -139,6 +139,30 @@ module _ (number : ℕ → ℕ → ℕ) (nodes : ℕ) where
         let b = cell_in_row j d (in_if (is_some (count_of key j)) (term_row number nodes j) d k).1 in
         rw (a.is, b.is) (by_first i j (a.node ∷ []) (b.node ∷ []) lt))
 
+module _ (v : State) (name : List ℕ) where
+  -- ---- what a node moved to another one
+
+  pub shift_in_cell : (term from to : ℕ) (c : ℕ × ℕ × ℕ × ℕ) → IsIn c (shift_cell v name term from to) →
+      (to ≢ from) × (v.shifts name term from to ≢ 0) × (c ≡ (term, from, to, v.shifts name term from to))
+  shift_in_cell term from to c h =
+      let r = in_unless (to == from) (cell_of (v.shifts name term from to) (term, from, to, v.shifts name term from to))
+      c h in
+      let apart : to ≢ from = λ e. let same : (to == from) ≡ true = eq-eqb to from e in
+      absurd (let not : false ≡ true = sym r.0 ∙ same in cc) in
+      let one = in_cell (v.shifts name term from to) (term, from, to, v.shifts name term from to) c r.1 in
+      (apart, one.0, one.1)
+
+  pub cell_in_shift : (term from to : ℕ) → to ≢ from → v.shifts name term from to ≢ 0 →
+      IsIn (term, from, to, v.shifts name term from to) (shift_cell v name term from to)
+  cell_in_shift term from to apart some =
+      unless_in (to == from) (cell_of (v.shifts name term from to) (term, from, to, v.shifts name term from to))
+      (term, from, to, v.shifts name term from to) (others (to == from) refl)
+      (cell_in (v.shifts name term from to) (term, from, to, v.shifts name term from to) some)
+    where
+      others : (b : Bool) → (to == from) ≡ b → b ≡ false
+      others true e = absurd (apart (eqb-true to from e))
+      others false e = refl
+
 module _ (v : State) (name : List ℕ) (nodes : ℕ) where
   -- ---- hits
 
@@ -174,27 +198,6 @@ module _ (v : State) (name : List ℕ) (nodes : ℕ) where
 
   -- ---- shifts
 
-  pub shift_in_cell : (term from to : ℕ) (c : ℕ × ℕ × ℕ × ℕ) → IsIn c (shift_cell v name term from to) →
-      (to ≢ from) × (v.shifts name term from to ≢ 0) × (c ≡ (term, from, to, v.shifts name term from to))
-  shift_in_cell term from to c h =
-      let r = in_unless (to == from) (cell_of (v.shifts name term from to) (term, from, to, v.shifts name term from to))
-      c h in
-      let apart : to ≢ from = λ e. let same : (to == from) ≡ true = eq-eqb to from e in
-      absurd (let not : false ≡ true = sym r.0 ∙ same in cc) in
-      let one = in_cell (v.shifts name term from to) (term, from, to, v.shifts name term from to) c r.1 in
-      (apart, one.0, one.1)
-
-  pub cell_in_shift : (term from to : ℕ) → to ≢ from → v.shifts name term from to ≢ 0 →
-      IsIn (term, from, to, v.shifts name term from to) (shift_cell v name term from to)
-  cell_in_shift term from to apart some =
-      unless_in (to == from) (cell_of (v.shifts name term from to) (term, from, to, v.shifts name term from to))
-      (term, from, to, v.shifts name term from to) (others (to == from) refl)
-      (cell_in (v.shifts name term from to) (term, from, to, v.shifts name term from to) some)
-    where
-      others : (b : Bool) → (to == from) ≡ b → b ≡ false
-      others true e = absurd (apart (eqb-true to from e))
-      others false e = refl
-
   pub record IsShiftFrom (term from : ℕ) (c : ℕ × ℕ × ℕ × ℕ) : Type 0 where
     pub to : ℕ
     pub below : to < nodes
@@ -211,7 +214,7 @@ module _ (v : State) (name : List ℕ) (nodes : ℕ) where
       IsShiftFrom term from c
   shift_in_row term from c h =
       let r = below_in (shift_cell v name term from) nodes c h in
-      let one = shift_in_cell term from r.0 c r.2 in
+      let one = shift_in_cell v name term from r.0 c r.2 in
       record { to = r.0; below = r.1; apart = one.0; some = one.1; is = one.2 }
 
   shift_in_rows : (term : ℕ) (c : ℕ × ℕ × ℕ × ℕ) → IsIn c (shift_rows v name nodes term) → IsShiftOf term c
@@ -235,8 +238,8 @@ module _ (v : State) (name : List ℕ) (nodes : ℕ) where
       (term, from, to, v.shifts name term from to)) (cell_ascends shift_place (v.shifts name term from to)
       (term, from, to, v.shifts name term from to)))
       (λ i j c d lt h k.
-      let a = shift_in_cell term from i c h in
-      let b = shift_in_cell term from j d k in
+      let a = shift_in_cell v name term from i c h in
+      let b = shift_in_cell v name term from j d k in
       rw (a.2, b.2) (by_rest term (from ∷ i ∷ []) (from ∷ j ∷ [])
       (by_rest from (i ∷ []) (j ∷ []) (by_first i j [] [] lt))))
 
@@ -265,7 +268,7 @@ module _ (v : State) (name : List ℕ) (nodes : ℕ) where
         → IsIn (term, from, to, v.shifts name term from to) (shift_cells v name key nodes)
     member_shift term from to below counted lt less apart some =
         let cell : ℕ × ℕ × ℕ × ℕ = (term, from, to, v.shifts name term from to) in
-        let one = cell_in_shift term from to apart some in
+        let one = cell_in_shift v name term from to apart some in
         let row = in_below (shift_cell v name term from) nodes to cell less one in
         let rows = in_below (shift_row v name nodes term) nodes from cell lt row in
         in_below (shift_rows_of v name key nodes) 16 term cell below

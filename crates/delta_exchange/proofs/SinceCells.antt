@@ -61,15 +61,17 @@ said_once Equal Equal e = e
 said_once Equal Greater e = e
 said_once Greater p e = e
 
--- what the marks of a name are, in a lawful state of few nodes
-pub record IsMarked (v : State) (nodes : ℕ) (m : Marks) (name : List ℕ) (w : NameMarks) : Type 0 where
-  pub lawful : IsLawfulState nodes v
-  pub few : nodes ≤ max_nodes
+-- what the marks of a name are
+pub record IsMarked (m : Marks) (name : List ℕ) (w : NameMarks) : Type 0 where
   pub at : marks_at m.names.entries name ≡ Some w
   pub ordered : IsOrdered counted_cmp w.cells
 
-module _ {v : State} {nodes : ℕ} {m : Marks} {name : List ℕ} {w : NameMarks} (marked : IsMarked v nodes m name w)
-    (base : ℕ) where
+-- a lawful state of few nodes
+pub record IsFewState (v : State) (nodes : ℕ) : Type 0 where
+  pub lawful : IsLawfulState nodes v
+  pub few : nodes ≤ max_nodes
+
+module _ (v : State) {m : Marks} {name : List ℕ} {w : NameMarks} (marked : IsMarked m name w) (base : ℕ) where
   abbrev IsChanged : Counted → ℕ → Type 0
   IsChanged c number = IsChangedCell v (changes_of m) base name c number
 
@@ -121,12 +123,12 @@ module _ {v : State} {nodes : ℕ} {m : Marks} {name : List ℕ} {w : NameMarks}
       across (Execs t i) e x y lt h k = absurd h
       across (Shifts t i o) e x y lt h k = absurd h
 
-  pub few_hits_since : length (hits_since (held_at v name) base w) ≤ max_nodes
-  few_hits_since =
+  pub few_hits_since : {nodes : ℕ} → IsFewState v nodes → length (hits_since (held_at v name) base w) ≤ max_nodes
+  few_hits_since {nodes = nodes} of_few =
       let all = hit_cells v name nodes in
       let short = part_is_short (map hit_place (hits_since (held_at v name) base w)) (map hit_place all)
       hits_since_ascend (hits_ascend v name nodes) part in
-      let most = few_hits v name nodes marked.few in
+      let most = few_hits v name nodes of_few.few in
       let a = length-map (hits_since (held_at v name) base w) hit_place in
       let b = length-map all hit_place in
       omega (arith, short, most, a, b)
@@ -139,7 +141,7 @@ module _ {v : State} {nodes : ℕ} {m : Marks} {name : List ℕ} {w : NameMarks}
           let some : v.hits name r.0.0 ≢ 0 = λ z. d.positive (d.is_now ∙ z) in
           subst (λ q. IsIn q (map hit_place (hit_cells v name nodes))) (sym r.2)
           (mapped_in hit_place (hit_cells v name nodes) (r.0.0, v.hits name r.0.0)
-          (member_hit v name nodes r.0.0 (marked.lawful.hits name r.0.0 some) some))
+          (member_hit v name nodes r.0.0 (of_few.lawful.hits name r.0.0 some) some))
 
   -- ---- executions
 
@@ -161,11 +163,11 @@ module _ {v : State} {nodes : ℕ} {m : Marks} {name : List ℕ} {w : NameMarks}
         by_kind (Shifts term from to) n e lt k = absurd k
 
     -- it stands among all cells
-    exec_held : (term node : ℕ) → v.execs name term node ≢ 0 →
+    exec_held : {nodes : ℕ} → IsFewState v nodes → (term node : ℕ) → v.execs name term node ≢ 0 →
         IsIn (term, node, v.execs name term node) (exec_cells v name key nodes)
-    exec_held term node some =
-        let where_at = marked.lawful.execs name key term node keyed some in
-        let below = term_below nodes key term (marked.lawful.key name key keyed) where_at.0.0 in
+    exec_held {nodes = nodes} of_few term node some =
+        let where_at = of_few.lawful.execs name key term node keyed some in
+        let below = term_below nodes key term (of_few.lawful.key name key keyed) where_at.0.0 in
         member_term (v.execs name) nodes key term node below where_at.0.0 where_at.1 some
 
     pub changed_exec : (term node number : ℕ) → IsChanged (Execs term node) number →
@@ -199,13 +201,13 @@ module _ {v : State} {nodes : ℕ} {m : Marks} {name : List ℕ} {w : NameMarks}
         across (Hits i) e x y lt h k = absurd h
         across (Shifts t i o) e x y lt h k = absurd h
 
-    pub few_execs_since : length (execs_since (held_at v name) base w) ≤ 512
-    few_execs_since =
+    pub few_execs_since : {nodes : ℕ} → IsFewState v nodes → length (execs_since (held_at v name) base w) ≤ 512
+    few_execs_since {nodes = nodes} of_few =
         let since = execs_since (held_at v name) base w in
         let all = exec_cells v name key nodes in
         let short = part_is_short (map exec_place since) (map exec_place all) execs_since_ascend
         (terms_ascend (v.execs name) nodes key) part in
-        let most = few_terms (v.execs name) nodes key marked.few in
+        let most = few_terms (v.execs name) nodes key of_few.few in
         let a = length-map since exec_place in
         let b = length-map all exec_place in
         omega (arith, short, most, a, b)
@@ -218,7 +220,7 @@ module _ {v : State} {nodes : ℕ} {m : Marks} {name : List ℕ} {w : NameMarks}
             let some : v.execs name r.0.0 r.0.1 ≢ 0 = λ z. d.positive (d.is_now ∙ z) in
             subst (λ q. IsIn q (map exec_place (exec_cells v name key nodes))) (sym r.2)
             (mapped_in exec_place (exec_cells v name key nodes) (r.0.0, r.0.1, v.execs name r.0.0 r.0.1)
-            (exec_held r.0.0 r.0.1 some))
+            (exec_held of_few r.0.0 r.0.1 some))
 
     -- ---- shifts
 
@@ -233,18 +235,18 @@ module _ {v : State} {nodes : ℕ} {m : Marks} {name : List ℕ} {w : NameMarks}
         by_kind (Hits node) n e lt k = absurd k
         by_kind (Execs term node) n e lt k = absurd k
         by_kind (Shifts term from to) n e lt k =
-            let one = shift_in_cell v name nodes term from to c k in
+            let one = shift_in_cell v name term from to c k in
             let mark = change_is m name w marked.at (Shifts term from to) ∙
             ap (λ o. cell_change false (unwrap_or o 0) w.key) e in
             let there : IsChanged (Shifts term from to) (v.shifts name term from to) =
             record { is_now = refl; positive = one.1; later = subst (λ k. base < k) (sym mark) lt } in
             subst (λ (x : ℕ × ℕ × ℕ × ℕ). (x.2 ≢ x.1) × IsChanged (Shifts x.0 x.1 x.2) x.3) (sym one.2) (one.0, there)
 
-    shift_held : (term from to : ℕ) → to ≢ from → v.shifts name term from to ≢ 0 →
+    shift_held : {nodes : ℕ} → IsFewState v nodes → (term from to : ℕ) → to ≢ from → v.shifts name term from to ≢ 0 →
         IsIn (term, from, to, v.shifts name term from to) (shift_cells v name key nodes)
-    shift_held term from to apart some =
-        let where_at = marked.lawful.shifts name key term from to keyed some in
-        let below = term_below nodes key term (marked.lawful.key name key keyed) where_at.0.0 in
+    shift_held {nodes = nodes} of_few term from to apart some =
+        let where_at = of_few.lawful.shifts name key term from to keyed some in
+        let below = term_below nodes key term (of_few.lawful.key name key keyed) where_at.0.0 in
         member_shift v name nodes key term from to below where_at.0.0 where_at.1 where_at.2 apart some
 
     pub changed_shift : (term from to number : ℕ) → to ≢ from → IsChanged (Shifts term from to) number →
@@ -256,7 +258,7 @@ module _ {v : State} {nodes : ℕ} {m : Marks} {name : List ℕ} {w : NameMarks}
         let cell : ℕ × ℕ × ℕ × ℕ = (term, from, to, v.shifts name term from to) in
         subst (λ n. IsIn (term, from, to, n) (shifts_since (held_at v name) base w)) (sym d.is_now)
         (member_later (shift_of (held_at v name)) w base w.cells.entries (Shifts term from to) k.0 cell k.1 k.2
-        (cell_in_shift v name nodes term from to apart some))
+        (cell_in_shift v name term from to apart some))
 
     pub shifts_since_ascend : IsAscending (map shift_place (shifts_since (held_at v name) base w))
     shifts_since_ascend = later_ascends (shift_of (held_at v name)) w base shift_place each across w.cells.entries
@@ -273,21 +275,21 @@ module _ {v : State} {nodes : ℕ} {m : Marks} {name : List ℕ} {w : NameMarks}
         across : (c e : Counted) (x y : ℕ × ℕ × ℕ × ℕ) → counted_cmp c e ≡ Less → IsIn x (shift_of (held_at v name) c) →
             IsIn y (shift_of (held_at v name) e) → slice_cmp nat_cmp (shift_place x) (shift_place y) ≡ Less
         across (Shifts s i n) (Shifts t j o) x y lt h k =
-            let a = shift_in_cell v name nodes s i n x h in
-            let b = shift_in_cell v name nodes t j o y k in
+            let a = shift_in_cell v name s i n x h in
+            let b = shift_in_cell v name t j o y k in
             rw (a.2, b.2) lt
         across (Shifts s i n) (Hits j) x y lt h k = absurd k
         across (Shifts s i n) (Execs t j) x y lt h k = absurd k
         across (Hits i) e x y lt h k = absurd h
         across (Execs t i) e x y lt h k = absurd h
 
-    pub few_shifts_since : length (shifts_since (held_at v name) base w) ≤ 16384
-    few_shifts_since =
+    pub few_shifts_since : {nodes : ℕ} → IsFewState v nodes → length (shifts_since (held_at v name) base w) ≤ 16384
+    few_shifts_since {nodes = nodes} of_few =
         let since = shifts_since (held_at v name) base w in
         let all = shift_cells v name key nodes in
         let short = part_is_short (map shift_place since) (map shift_place all) shifts_since_ascend
         (shifts_ascend v name nodes key) part in
-        let most = few_shifts v name nodes key marked.few in
+        let most = few_shifts v name nodes key of_few.few in
         let a = length-map since shift_place in
         let b = length-map all shift_place in
         omega (arith, short, most, a, b)
@@ -300,7 +302,7 @@ module _ {v : State} {nodes : ℕ} {m : Marks} {name : List ℕ} {w : NameMarks}
             let some : v.shifts name r.0.0 r.0.1 r.0.2 ≢ 0 = λ z. d.1.positive (d.1.is_now ∙ z) in
             subst (λ q. IsIn q (map shift_place (shift_cells v name key nodes))) (sym r.2)
             (mapped_in shift_place (shift_cells v name key nodes) (r.0.0, r.0.1, r.0.2, v.shifts name r.0.0 r.0.1 r.0.2)
-            (shift_held r.0.0 r.0.1 r.0.2 d.0 some))
+            (shift_held of_few r.0.0 r.0.1 r.0.2 d.0 some))
 
     -- ---- grants
 
@@ -338,11 +340,11 @@ module _ {v : State} {nodes : ℕ} {m : Marks} {name : List ℕ} {w : NameMarks}
             record { is_now = refl; positive = one.1; later = subst (λ k. base < k) (sym mark) lt } in
             subst (λ (x : ℕ × ℕ × ℕ). IsChanged (Shifts x.0 x.1 x.1) x.2) (sym one.2) there
 
-    grant_held : (term node : ℕ) → granted_in v name term node ≢ 0 →
+    grant_held : {nodes : ℕ} → IsFewState v nodes → (term node : ℕ) → granted_in v name term node ≢ 0 →
         IsIn (term, node, granted_in v name term node) (grant_cells v name key nodes)
-    grant_held term node some =
-        let where_at = marked.lawful.shifts name key term node node keyed some in
-        let below = term_below nodes key term (marked.lawful.key name key keyed) where_at.0.0 in
+    grant_held {nodes = nodes} of_few term node some =
+        let where_at = of_few.lawful.shifts name key term node node keyed some in
+        let below = term_below nodes key term (of_few.lawful.key name key keyed) where_at.0.0 in
         member_term (granted_in v name) nodes key term node below where_at.0.0 where_at.1 some
 
     pub changed_grant : (term node number : ℕ) → IsChanged (Shifts term node node) number →
@@ -381,13 +383,13 @@ module _ {v : State} {nodes : ℕ} {m : Marks} {name : List ℕ} {w : NameMarks}
         across (Hits i) e x y lt h k = absurd h
         across (Execs t i) e x y lt h k = absurd h
 
-    pub few_grants_since : length (grants_since (held_at v name) base w) ≤ 512
-    few_grants_since =
+    pub few_grants_since : {nodes : ℕ} → IsFewState v nodes → length (grants_since (held_at v name) base w) ≤ 512
+    few_grants_since {nodes = nodes} of_few =
         let since = grants_since (held_at v name) base w in
         let all = grant_cells v name key nodes in
         let short = part_is_short (map exec_place since) (map exec_place all) grants_since_ascend
         (terms_ascend (granted_in v name) nodes key) part in
-        let most = few_terms (granted_in v name) nodes key marked.few in
+        let most = few_terms (granted_in v name) nodes key of_few.few in
         let a = length-map since exec_place in
         let b = length-map all exec_place in
         omega (arith, short, most, a, b)
@@ -400,4 +402,4 @@ module _ {v : State} {nodes : ℕ} {m : Marks} {name : List ℕ} {w : NameMarks}
             let some : granted_in v name r.0.0 r.0.1 ≢ 0 = λ z. d.positive (d.is_now ∙ z) in
             subst (λ q. IsIn q (map exec_place (grant_cells v name key nodes))) (sym r.2)
             (mapped_in exec_place (grant_cells v name key nodes) (r.0.0, r.0.1, granted_in v name r.0.0 r.0.1)
-            (grant_held r.0.0 r.0.1 some))
+            (grant_held of_few r.0.0 r.0.1 some))

@@ -11,7 +11,6 @@ use Rattle.operations.specs.Counts.{is_hits}
 use Rattle.replica_state.specs.Cells as state
 use Rattle.operations.specs.declared.counted.Counted.{Counted}
 use Rattle.operations.specs.declared.counted.Counted.TheVariants.{Hits, Execs, Shifts}
-use Rattle.message_format.specs.Limits.{max_nodes}
 use Rattle.delta_exchange.specs.declared.marks.NameMarks.{NameMarks}
 use Rattle.delta_exchange.specs.declared.marks.Marks.{Marks}
 use Rattle.delta_exchange.specs.Marks.{marks_at, latest_of, marks_value, last_changes, cell_change, AreUpto}
@@ -21,9 +20,8 @@ use Rattle.message_format.specs.Spelling.{IsHit, IsExec, IsShift, IsGrant, IsEnt
 use Rattle.delta_exchange.specs.Cells.{EntryFits}
 use Rattle.delta_exchange.specs.Since.{hits_since, execs_since, shifts_since, grants_since, entry_since, tells_cells}
 use Rattle.message_format.proofs.Members.{all_of, one_of}
-use Rattle.delta_exchange.proofs.LawfulStates.{IsLawfulState}
 use Rattle.delta_exchange.proofs.BelowLemmas.{ascends}
-use Rattle.delta_exchange.proofs.SinceCells.{IsMarked, changes_of, key_change, hit_changed, changed_hit, hits_since_ascend, few_hits_since, exec_changed, changed_exec, execs_since_ascend, few_execs_since, shift_changed, changed_shift, shifts_since_ascend, few_shifts_since, grant_changed, changed_grant, grants_since_ascend, few_grants_since}
+use Rattle.delta_exchange.proofs.SinceCells.{IsMarked, IsFewState, changes_of, key_change, hit_changed, changed_hit, hits_since_ascend, few_hits_since, exec_changed, changed_exec, execs_since_ascend, few_execs_since, shift_changed, changed_shift, shifts_since_ascend, few_shifts_since, grant_changed, changed_grant, grants_since_ascend, few_grants_since}
 use Rattle.delta_exchange.proofs.TellsCells.{either, hits_tell, execs_tell, shifts_tell, grants_tell, cell_told}
 use Rattle.delta_exchange.proofs.SinceEntries.{all_since, AreOrdered, order_of, member_entry}
 
@@ -76,29 +74,29 @@ module _ (v : State) (m : Marks) (base : ℕ) (name : List ℕ) where
             (λ le. absurd (h (unchanged_upto (omega (arith, is, le)))))
             (cases_lt base w.latest)
 
-module _ {v : State} {nodes : ℕ} {m : Marks} {name : List ℕ} {w : NameMarks} (marked : IsMarked v nodes m name w)
-    (base : ℕ) {key : KeyValue} (keyed : v.key name ≡ Some key) where
+module _ (v : State) {m : Marks} {name : List ℕ} {w : NameMarks} (marked : IsMarked m name w) (base : ℕ)
+    {key : KeyValue} (keyed : v.key name ≡ Some key) where
   abbrev entry : EntryValue
   entry = entry_since (held_at v name) name key base w
 
   cell_tells : (c : Counted) → state.cell_of v name c ≢ 0 → base < (changes_of m).cell name c →
       IsTrue (tells_cells entry)
   cell_tells (Hits node) some lt =
-      hits_tell entry (node, v.hits name node) (changed_hit marked base node
+      hits_tell entry (node, v.hits name node) (changed_hit v marked base node
       (v.hits name node) (record { is_now = refl; positive = some; later = lt }))
   cell_tells (Execs term node) some lt =
       execs_tell entry (term, node, v.execs name term node)
-      (changed_exec marked base keyed term node (v.execs name term node)
+      (changed_exec v marked base keyed term node (v.execs name term node)
       (record { is_now = refl; positive = some; later = lt }))
   cell_tells (Shifts term from to) some lt = ⊎_elim
       (λ same.
       let own = subst (λ o. IsChangedCell v (changes_of m) base name (Shifts term from o) (v.shifts name term from o))
       same changed in
       grants_tell entry (term, from, granted_in v name term from)
-      (changed_grant marked base keyed term from (granted_in v name term from)
+      (changed_grant v marked base keyed term from (granted_in v name term from)
       own))
       (λ apart. shifts_tell entry (term, from, to, v.shifts name term from to)
-      (changed_shift marked base keyed term from to
+      (changed_shift v marked base keyed term from to
       (v.shifts name term from to) apart changed))
       (cases_eq to from)
     where
@@ -148,91 +146,87 @@ module _ {v : State} {nodes : ℕ} {m : Marks} {name : List ℕ} {w : NameMarks}
           absurd (omega (arith, le, lt))
 
       hits : (c : ℕ × ℕ) × IsIn c entry.hits → ⊥
-      hits (c, h) = same_cell (Hits c.0) c.1 (hit_changed marked base c h)
+      hits (c, h) = same_cell (Hits c.0) c.1 (hit_changed v marked base c h)
 
       execs : (c : ℕ × ℕ × ℕ) × IsIn c entry.execs → ⊥
-      execs (c, h) = same_cell (Execs c.0 c.1) c.2 (exec_changed marked base keyed
+      execs (c, h) = same_cell (Execs c.0 c.1) c.2 (exec_changed v marked base keyed
           c h)
 
       shifts : (c : ℕ × ℕ × ℕ × ℕ) × IsIn c entry.shifts → ⊥
-      shifts (c, h) = same_cell (Shifts c.0 c.1 c.2) c.3 (shift_changed marked base keyed c h).1
+      shifts (c, h) = same_cell (Shifts c.0 c.1 c.2) c.3 (shift_changed v marked base keyed c h).1
 
       grants : (c : ℕ × ℕ × ℕ) × IsIn c entry.grants → ⊥
-      grants (c, h) = same_cell (Shifts c.0 c.1 c.1) c.2 (grant_changed marked base keyed c h)
+      grants (c, h) = same_cell (Shifts c.0 c.1 c.1) c.2 (grant_changed v marked base keyed c h)
 
   -- ---- it can be written
 
-  pub entry_is : EntryFits entry → IsEntry nodes entry
-  entry_is fits =
-      let few_hits = few_hits_since marked base in
-      let few_execs = few_execs_since marked base keyed in
-      let few_shifts = few_shifts_since marked base keyed in
-      let few_grants = few_grants_since marked base keyed in
+  pub entry_is : {nodes : ℕ} → IsFewState v nodes → EntryFits entry → IsEntry nodes entry
+  entry_is {nodes = nodes} of_few fits =
+      let few_hits = few_hits_since v marked base of_few in
+      let few_execs = few_execs_since v marked base keyed of_few in
+      let few_shifts = few_shifts_since v marked base keyed of_few in
+      let few_grants = few_grants_since v marked base keyed of_few in
       record {
-        name = marked.lawful.named name (marked.lawful.key_name name key keyed);
-        key = marked.lawful.key name key keyed;
+        name = of_few.lawful.named name (of_few.lawful.key_name name key keyed);
+        key = of_few.lawful.key name key keyed;
         few_hits = omega (arith, few_hits);
         hits = all_of (IsHit nodes) entry.hits (λ c h. hit_is c
             (one_of (λ (x : ℕ × ℕ). x.1 < 2 ^ 64) entry.hits fits.0 c h) h);
-        hits_ascend = ascends _ (hits_since_ascend marked base);
+        hits_ascend = ascends _ (hits_since_ascend v marked base);
         few_execs = omega (arith, few_execs);
         execs = all_of (IsExec nodes key) entry.execs (λ c h. exec_is c
             (one_of (λ (x : ℕ × ℕ × ℕ). x.2 < 2 ^ 64) entry.execs fits.1 c h) h);
-        execs_ascend = ascends _ (execs_since_ascend marked base keyed);
+        execs_ascend = ascends _ (execs_since_ascend v marked base keyed);
         few_shifts = omega (arith, few_shifts);
         shifts = all_of (IsShift nodes key) entry.shifts (λ c h. shift_is c
             (one_of (λ (x : ℕ × ℕ × ℕ × ℕ). x.3 < 2 ^ 64) entry.shifts fits.2 c h) h);
-        shifts_ascend = ascends _ (shifts_since_ascend marked base keyed);
+        shifts_ascend = ascends _ (shifts_since_ascend v marked base keyed);
         few_grants = omega (arith, few_grants);
         grants = all_of (IsGrant nodes key) entry.grants (λ c h. grant_is c
             (one_of (λ (x : ℕ × ℕ × ℕ). x.2 < 2 ^ 64) entry.grants fits.3 c h) h);
-        grants_ascend = ascends _ (grants_since_ascend marked base keyed);
+        grants_ascend = ascends _ (grants_since_ascend v marked base keyed);
       }
     where
       hit_is : (c : ℕ × ℕ) → c.1 < 2 ^ 64 → IsIn c (hits_since (held_at v name) base w) → IsHit nodes c
       hit_is c fit h =
-          let d = hit_changed marked base c h in
+          let d = hit_changed v marked base c h in
           let positive = d.positive in
-          (marked.lawful.hits name c.0 (λ z. d.positive (d.is_now ∙ z)), (omega (arith, positive), fit))
+          (of_few.lawful.hits name c.0 (λ z. d.positive (d.is_now ∙ z)), (omega (arith, positive), fit))
 
       exec_is : (c : ℕ × ℕ × ℕ) → c.2 < 2 ^ 64 → IsIn c (execs_since (held_at v name) base w) → IsExec nodes key c
       exec_is c fit h =
-          let d = exec_changed marked base keyed c h in
+          let d = exec_changed v marked base keyed c h in
           let positive = d.positive in
-          let r = marked.lawful.execs name key c.0 c.1 keyed (λ z. d.positive (d.is_now ∙ z)) in
+          let r = of_few.lawful.execs name key c.0 c.1 keyed (λ z. d.positive (d.is_now ∙ z)) in
           (r.0, r.1, (omega (arith, positive), fit))
 
       shift_is : (c : ℕ × ℕ × ℕ × ℕ) → c.3 < 2 ^ 64 → IsIn c (shifts_since (held_at v name) base w) →
           IsShift nodes key c
       shift_is c fit h =
-          let d = shift_changed marked base keyed c h in
+          let d = shift_changed v marked base keyed c h in
           let positive = d.1.positive in
-          let r = marked.lawful.shifts name key c.0 c.1 c.2 keyed (λ z. d.1.positive (d.1.is_now ∙ z)) in
+          let r = of_few.lawful.shifts name key c.0 c.1 c.2 keyed (λ z. d.1.positive (d.1.is_now ∙ z)) in
           (r.0, r.1, r.2, d.0, (omega (arith, positive), fit))
 
       grant_is : (c : ℕ × ℕ × ℕ) → c.2 < 2 ^ 64 → IsIn c (grants_since (held_at v name) base w) → IsGrant nodes key c
       grant_is c fit h =
-          let d = grant_changed marked base keyed c h in
+          let d = grant_changed v marked base keyed c h in
           let positive = d.positive in
-          let r = marked.lawful.shifts name key c.0 c.1 c.1 keyed (λ z. d.positive (d.is_now ∙ z)) in
+          let r = of_few.lawful.shifts name key c.0 c.1 c.1 keyed (λ z. d.positive (d.is_now ∙ z)) in
           (r.0, r.1, (omega (arith, positive), fit))
 
--- what is known of the marks of a lawful state of few nodes
-pub record AreMarks (v : State) (nodes : ℕ) (m : Marks) (base version : ℕ) : Type 0 where
-  pub lawful : IsLawfulState nodes v
-  pub few : nodes ≤ max_nodes
+-- what is known of the marks of a state
+pub record AreMarks (v : State) (m : Marks) (base version : ℕ) : Type 0 where
   pub upto : AreUpto (marks_value m) version
   pub ordered : AreOrdered v base m
 
 -- so each name of which something changed has its entry
-pub entry_changed : {v : State} {nodes : ℕ} {m : Marks} {base version : ℕ} → AreMarks v nodes m base version →
+pub entry_changed : {v : State} {m : Marks} {base version : ℕ} → AreMarks v m base version →
     (name : List ℕ) (key : KeyValue) → v.key name ≡ Some key →
     (IsUnchangedSince v (changes_of m) base name → ⊥) →
-    (w : NameMarks) × IsMarked v nodes m name w ×
-    IsIn (entry_since (held_at v name) name key base w) (all_since v base m)
-entry_changed {v = v} {nodes = nodes} {m = m} {base = base} {version = version} are name key keyed h =
+    (w : NameMarks) × IsMarked m name w × IsIn (entry_since (held_at v name) name key base w) (all_since v base m)
+entry_changed {v = v} {m = m} {base = base} {version = version} are name key keyed h =
     let r = marks_changed v m base name version are.upto h in
     let order = order_of v base m are.ordered name key r.0 r.1 r.2 keyed in
-    let marked : IsMarked v nodes m name r.0 =
-    record { lawful = are.lawful; few = are.few; at = r.1; ordered = order } in
-    (r.0, marked, member_entry v base m are.ordered name key r.0 keyed r.1 r.2 (change_told marked base keyed h))
+    let marked : IsMarked m name r.0 = record { at = r.1; ordered = order } in
+    (r.0, marked, member_entry v base m are.ordered name key r.0 keyed r.1 r.2 (change_told v marked base keyed h))

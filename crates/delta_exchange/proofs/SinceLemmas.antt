@@ -1,28 +1,28 @@
 -- What changed after a version, as a message: it can be written, and it tells just the changes.
 use Rattle.std.proofs.Common.{◌≡◌, ◌≢◌, ℕ, ◌<◌, ◌≤◌, ◌^◌, inl, inr, ⊎_elim, List, length, Option, Some, None, refl, sym, subst, ◌∙◌, length-append, arith}
-use Rattle.std.specs.Prelude.{◌↔◌, is_some, IsTrue}
-use Rattle.std.specs.List.{flat_map}
+use Rattle.std.specs.Prelude.{◌↔◌, is_some, IsSome, IsTrue, map}
+use Rattle.std.specs.List.{AllByRecursion, flat_map}
 use Rattle.std.proofs.lemmas.Bool.{cases_eq}
 use Rattle.stamp_register.specs.Keys.{KeyValue}
-use Rattle.operations.specs.Operations.{Operation, Set, Count, Hits, Execs, Shifts, IsIn}
+use Rattle.operations.specs.Operations.{Operation, Set, Count, Hits, Execs, Shifts, IsIn, name_in}
 use Rattle.replica_state.specs.States.{State}
 use Rattle.replica_state.specs.Cells.{held_at}
 use Rattle.operations.specs.declared.counted.Counted.TheVariants as counted
 use Rattle.delta_exchange.specs.declared.marks.Marks.{Marks}
 use Rattle.delta_exchange.specs.Marks.{marks_value, AreUpto}
-use Rattle.delta_exchange.specs.Changes.{IsChangeSince, IsChangedCell, IsUnchangedSince}
+use Rattle.delta_exchange.specs.Changes.{LastChanges, IsChangeSince, IsChangedCell, IsUnchangedSince}
 use Rattle.message_format.specs.Messages.{EntryValue, MessageValue, operations_of}
-use Rattle.message_format.specs.Spelling.{IsEntry, IsMessage, form_of, entry_bytes, message_bytes, max_message}
+use Rattle.message_format.specs.Spelling.{Ascend, IsEntry, IsMessage, form_of, entry_bytes, message_bytes, max_message}
 use Rattle.delta_exchange.specs.Cells.{EntryFits, EntriesFit}
 use Rattle.delta_exchange.specs.Versions.{VersionedValue}
-use Rattle.delta_exchange.specs.Since.{CanBeTold, IsMessageSince, entry_since}
+use Rattle.delta_exchange.specs.Since.{CanBeTold, IsInOrder, IsToldSince, TellsSince, IsMessageSince, entry_since}
 use Rattle.message_format.proofs.Members.{all_of, flat_in, in_flat, one_of}
 use Rattle.message_format.proofs.Told.{IsTold, told_of}
 use Rattle.message_format.proofs.OneMessage.{hit_in, exec_in, shift_in, grant_in}
 use Rattle.delta_exchange.proofs.LawfulStates.{IsLawfulState, lawful_state}
 use Rattle.message_format.proofs.Sizes.{IsShort, length_flat, magic_short, entry_short}
 use Rattle.delta_exchange.proofs.BelowLemmas.{ascends}
-use Rattle.delta_exchange.proofs.SinceCells.{IsMarked, changes_of, hit_changed, changed_hit, few_hits_since, exec_changed, changed_exec, few_execs_since, shift_changed, changed_shift, few_shifts_since, grant_changed, changed_grant, few_grants_since}
+use Rattle.delta_exchange.proofs.SinceCells.{IsMarked, IsFewState, changes_of, hit_changed, changed_hit, hits_since_ascend, few_hits_since, exec_changed, changed_exec, execs_since_ascend, few_execs_since, shift_changed, changed_shift, shifts_since_ascend, few_shifts_since, grant_changed, changed_grant, grants_since_ascend, few_grants_since}
 use Rattle.delta_exchange.proofs.SinceEntries.{all_since, AreOrdered, IsEntrySince, entry_member, few_entries, entries_ascend}
 use Rattle.delta_exchange.proofs.SinceChanges.{AreMarks, told_change, entry_is, entry_changed}
 
@@ -30,15 +30,15 @@ some_key : (o : Option KeyValue) → IsTrue (is_some o) → (key : KeyValue) × 
 some_key None h = absurd cc
 some_key (Some key) h = (key, refl)
 
-module _ {v : State} {nodes : ℕ} {m : Marks} {base version : ℕ} (are : AreMarks v nodes m base version) where
+module _ {v : State} {m : Marks} {base version : ℕ} (are : AreMarks v m base version) where
   abbrev Changes : Operation → Type 0
-  Changes = IsChangeSince v (changes_of m) base
+  Changes = IsToldSince v (changes_of m) base
 
   abbrev entries : List EntryValue
   entries = all_since v base m
 
-  marks_of : {e : EntryValue} → (r : IsEntrySince v base m e) → IsMarked v nodes m r.name r.marks
-  marks_of r = record { lawful = are.lawful; few = are.few; at = r.at; ordered = r.ordered }
+  marks_of : {e : EntryValue} → (r : IsEntrySince v base m e) → IsMarked m r.name r.marks
+  marks_of r = record { at = r.at; ordered = r.ordered }
 
   -- ---- what it tells changed
 
@@ -48,15 +48,18 @@ module _ {v : State} {nodes : ℕ} {m : Marks} {base version : ℕ} (are : AreMa
       s : EntryValue
       s = entry_since (held_at v r.name) r.name r.key base r.marks
 
+      some : IsSome (v.key r.name)
+      some = ap is_some r.keyed
+
       by_kind : IsTold s op → Changes op
-      by_kind (inl e) = subst Changes (sym e) (r.keyed, told_change (marks_of r) base r.keyed r.told)
-      by_kind (inr (inl (c, k, e))) = subst Changes (sym e) (hit_changed (marks_of r) base c k)
+      by_kind (inl e) = subst Changes (sym e) (some, (r.keyed, told_change v (marks_of r) base r.keyed r.told))
+      by_kind (inr (inl (c, k, e))) = subst Changes (sym e) (some, hit_changed v (marks_of r) base c k)
       by_kind (inr (inr (inl (c, k, e)))) = subst Changes (sym e)
-          (r.keyed, exec_changed (marks_of r) base r.keyed c k)
+          (some, (r.keyed, exec_changed v (marks_of r) base r.keyed c k))
       by_kind (inr (inr (inr (inl (c, k, e))))) = subst Changes (sym e)
-          (r.keyed, (shift_changed (marks_of r) base r.keyed c k).1)
+          (some, (r.keyed, (shift_changed v (marks_of r) base r.keyed c k).1))
       by_kind (inr (inr (inr (inr (c, k, e))))) = subst Changes (sym e)
-          (r.keyed, grant_changed (marks_of r) base r.keyed c k)
+          (some, (r.keyed, grant_changed v (marks_of r) base r.keyed c k))
 
   told_changed : (op : Operation) → IsIn op (flat_map operations_of entries) → Changes op
   told_changed op h =
@@ -73,59 +76,75 @@ module _ {v : State} {nodes : ℕ} {m : Marks} {base version : ℕ} (are : AreMa
       absurd (omega (arith, le, lt))
 
   changed_told : (op : Operation) → Changes op → IsIn op (flat_map operations_of entries)
-  changed_told (Set name key) d =
+  changed_told (Set name key) (keyed, d) =
       let r = entry_changed are name key d.0 d.1 in
       flat_in operations_of entries (entry_since (held_at v name) name key base r.0) (Set name key) r.2 (inl refl)
-  changed_told (Count (Hits name node) number) d =
-      let some : v.hits name node ≢ 0 = λ z. d.positive (d.is_now ∙ z) in
-      let key = some_key (v.key name) (are.lawful.keyed name (are.lawful.hit_name name node some)) in
+  changed_told (Count (Hits name node) number) (some, d) =
+      let key = some_key (v.key name) some in
       let r = entry_changed are name key.0 key.1
       (changed_name name (counted.Hits node) number d) in
       let e = entry_since (held_at v name) name key.0 base r.0 in
       flat_in operations_of entries e (Count (Hits name node) number) r.2
-      (hit_in e (node, number) (changed_hit r.1 base node number d))
-  changed_told (Count (Execs name key term node) number) d =
+      (hit_in e (node, number) (changed_hit v r.1 base node number d))
+  changed_told (Count (Execs name key term node) number) (keyed, d) =
       let r = entry_changed are name key d.0
       (changed_name name (counted.Execs term node) number d.1) in
       let e = entry_since (held_at v name) name key base r.0 in
       flat_in operations_of entries e (Count (Execs name key term node) number) r.2
-      (exec_in e (term, node, number) (changed_exec r.1 base d.0 term node
+      (exec_in e (term, node, number) (changed_exec v r.1 base d.0 term node
       number d.1))
-  changed_told (Count (Shifts name key term from to) number) d =
+  changed_told (Count (Shifts name key term from to) number) (keyed, d) =
       let r = entry_changed are name key d.0
       (changed_name name (counted.Shifts term from to) number d.1) in
       let e = entry_since (held_at v name) name key base r.0 in
       flat_in operations_of entries e (Count (Shifts name key term from to) number) r.2 (⊎_elim
       (λ same.
       let own = subst (λ o. IsChangedCell v (changes_of m) base name (counted.Shifts term from o) number) same d.1 in
-      let grant = grant_in e (term, from, number) (changed_grant r.1 base d.0 term
+      let grant = grant_in e (term, from, number) (changed_grant v r.1 base d.0 term
       from number own) in
       subst (λ o. IsIn (Count (Shifts name key term from o) number) (operations_of e)) (sym same) grant)
-      (λ apart. shift_in e (term, from, to, number) (changed_shift r.1 base d.0
+      (λ apart. shift_in e (term, from, to, number) (changed_shift v r.1 base d.0
       term from to number apart d.1))
       (cases_eq to from))
 
+  -- ---- it stands in order
+
+  in_order : (e : EntryValue) → IsIn e entries → IsInOrder e
+  in_order e h =
+      let r = entry_member v base m are.ordered e h in
+      let marked = marks_of r in
+      let s = entry_since (held_at v r.name) r.name r.key base r.marks in
+      let ordered : IsInOrder s = record {
+        hits = ascends _ (hits_since_ascend v marked base);
+        execs = ascends _ (execs_since_ascend v marked base r.keyed);
+        shifts = ascends _ (shifts_since_ascend v marked base r.keyed);
+        apart = all_of (λ (c : ℕ × ℕ × ℕ × ℕ). c.2 ≢ c.1) s.shifts
+            (λ c k. (shift_changed v marked base r.keyed c k).0);
+        grants = ascends _ (grants_since_ascend v marked base r.keyed);
+      } in
+      subst IsInOrder (sym r.is) ordered
+
   -- ---- it can be written
 
-  module _ (fit : EntriesFit entries) (names : length v.names ≤ 256) where
+  module _ {nodes : ℕ} (of_few : IsFewState v nodes) (fit : EntriesFit entries) (names : length v.names ≤ 256) where
     each_is : (e : EntryValue) → IsIn e entries → IsEntry nodes e × IsShort e
     each_is e h =
         let r = entry_member v base m are.ordered e h in
         let s = entry_since (held_at v r.name) r.name r.key base r.marks in
         let fits : EntryFits s = subst EntryFits r.is (one_of EntryFits entries fit e h) in
-        let is = entry_is (marks_of r) base r.keyed fits in
-        let hits = few_hits_since (marks_of r) base in
-        let execs = few_execs_since (marks_of r) base r.keyed in
-        let shifts = few_shifts_since (marks_of r) base r.keyed in
-        let grants = few_grants_since (marks_of r) base r.keyed in
+        let is = entry_is v (marks_of r) base r.keyed of_few fits in
+        let hits = few_hits_since v (marks_of r) base of_few in
+        let execs = few_execs_since v (marks_of r) base r.keyed of_few in
+        let shifts = few_shifts_since v (marks_of r) base r.keyed of_few in
+        let grants = few_grants_since v (marks_of r) base r.keyed of_few in
         subst (λ x. IsEntry nodes x × IsShort x) (sym r.is) (is, entry_short nodes s is hits execs shifts grants)
 
     pub is_spelled : (n : MessageValue) → n.entries ≡ entries → n.from < nodes → n.to < nodes → n.to ≢ n.from →
         n.base < 2 ^ 64 → n.upto < 2 ^ 64 → n.ack < 2 ^ 64 → IsMessage nodes n
     is_spelled n same lt less apart b u a =
-        let most = few_entries v base m are.ordered are.lawful.ascending are.lawful.key_name in
+        let most = few_entries v base m are.ordered of_few.lawful.ascending of_few.lawful.key_name in
         record {
-          few_nodes = (let few = are.few in omega (arith, few));
+          few_nodes = (let few = of_few.few in omega (arith, few));
           from = lt;
           to = less;
           apart = apart;
@@ -141,17 +160,25 @@ module _ {v : State} {nodes : ℕ} {m : Marks} {base version : ℕ} (are : AreMa
 
     pub is_short : (n : MessageValue) → n.entries ≡ entries → length (message_bytes n) ≤ max_message
     is_short n same =
-        let most = few_entries v base m are.ordered are.lawful.ascending are.lawful.key_name in
+        let most = few_entries v base m are.ordered of_few.lawful.ascending of_few.lawful.key_name in
         let form = form_of entries in
         let bytes = length_flat (entry_bytes form) 191924 entries (λ e h. (each_is e h).1 form) in
         let head = magic_short form in
         rw same (simp length-append (omega (arith, most, names, bytes, head)))
 
--- a message has what changed of a state that can be told, as the code has its marks
-pub record HasChanges (v : VersionedValue) (m : Marks) (n : MessageValue) (nodes from to base : ℕ) : Type 0 where
+-- of a lawful state each change is of a name with a key
+is_keyed : {nodes : ℕ} {v : State} → IsLawfulState nodes v → (last : LastChanges) (base : ℕ) (op : Operation) →
+    IsChangeSince v last base op → IsSome (v.key (name_in op))
+is_keyed lawful last base (Set name key) d = ap is_some d.0
+is_keyed lawful last base (Count (Hits name node) number) d =
+    lawful.keyed name (lawful.hit_name name node (λ z. d.positive (d.is_now ∙ z)))
+is_keyed lawful last base (Count (Execs name key term node) number) d = ap is_some d.0
+is_keyed lawful last base (Count (Shifts name key term from to) number) d = ap is_some d.0
+
+-- a message has what changed of a state, as the code has its marks
+pub record HasChanges (v : VersionedValue) (m : Marks) (n : MessageValue) (from to base : ℕ) : Type 0 where
   pub last : v.last ≡ changes_of m
   pub upto : AreUpto (marks_value m) v.version
-  pub can : CanBeTold nodes from to v.state
   pub ordered : AreOrdered v.state base m
   pub entries : n.entries ≡ all_since v.state base m
   pub fit : EntriesFit (all_since v.state base m)
@@ -162,35 +189,55 @@ pub record HasChanges (v : VersionedValue) (m : Marks) (n : MessageValue) (nodes
   pub ack : n.ack ≡ v.known to
   pub low : (base < 2 ^ 64) × (n.upto < 2 ^ 64) × (n.ack < 2 ^ 64)
 
--- where the state can be told
-pub is_message_since : (v : VersionedValue) (m : Marks) (n : MessageValue) (nodes from to base : ℕ) →
-    HasChanges v m n nodes from to base → IsMessageSince nodes from to base v n
-is_message_since v m n nodes from to base has =
-    let few = has.can.few_nodes in
-    let names = has.can.few_names in
-    let lt = has.can.sender in
-    let less = has.can.receiver in
+-- it tells just these, in their order
+pub tells_since : (v : VersionedValue) (m : Marks) (n : MessageValue) (from to base : ℕ) →
+    HasChanges v m n from to base → TellsSince from to base v n
+tells_since v m n from to base has =
+    let are : AreMarks v.state m base v.version = record { upto = has.upto; ordered = has.ordered } in
+    record {
+      sender = has.sender;
+      receiver = has.receiver;
+      since = has.since;
+      upto = has.version;
+      ack = has.ack;
+      names_ascend = subst (λ (es : List EntryValue). Ascend (map (λ e. e.name) es)) (sym has.entries)
+          (ascends _ (entries_ascend v.state base m has.ordered));
+      in_order = subst (AllByRecursion IsInOrder) (sym has.entries)
+          (all_of IsInOrder (all_since v.state base m) (in_order are));
+      changes = λ op. subst (λ es. IsIn op (flat_map operations_of es) ↔ IsToldSince v.state v.last base op)
+          (sym has.entries)
+          (subst (λ l. IsIn op (flat_map operations_of (all_since v.state base m)) ↔ IsToldSince v.state l base op)
+          (sym has.last)
+          (told_changed are op, changed_told are op));
+    }
+
+-- where the state can be told, it can be written
+pub is_message_since : (v : VersionedValue) (m : Marks) (n : MessageValue) (from to base : ℕ) →
+    HasChanges v m n from to base → (nodes : ℕ) → CanBeTold nodes from to v.state →
+    IsMessageSince nodes from to base v n
+is_message_since v m n from to base has nodes can =
+    let few = can.few_nodes in
+    let names = can.few_names in
+    let lt = can.sender in
+    let less = can.receiver in
     let sender = has.sender in
     let receiver = has.receiver in
     let since = has.since in
     let low = has.low.0 in
-    let state = subst (IsLawfulState nodes) (sym has.can.lawful.1) (lawful_state nodes has.can.lawful.0
-    has.can.lawful.2) in
-    let are : AreMarks v.state nodes m base v.version =
-    record { lawful = state; few = few; upto = has.upto; ordered = has.ordered } in
+    let lawful = subst (IsLawfulState nodes) (sym can.lawful.1) (lawful_state nodes can.lawful.0 can.lawful.2) in
+    let of_few : IsFewState v.state nodes = record { lawful = lawful; few = few } in
+    let are : AreMarks v.state m base v.version = record { upto = has.upto; ordered = has.ordered } in
+    let tells = tells_since v m n from to base has in
     record {
       sender = sender;
       receiver = receiver;
       since = since;
       upto = has.version;
       ack = has.ack;
-      spelled = is_spelled are has.fit names n has.entries
+      spelled = is_spelled are of_few has.fit names n has.entries
           (omega (arith, sender, lt)) (omega (arith, receiver, less))
-          (λ e. has.can.apart (sym receiver ∙ e ∙ sender)) (omega (arith, since, low)) has.low.1 has.low.2;
-      short = is_short are has.fit names n has.entries;
-      changes = λ op. subst (λ es. IsIn op (flat_map operations_of es) ↔ IsChangeSince v.state v.last base op)
-          (sym has.entries)
-          (subst (λ l. IsIn op (flat_map operations_of (all_since v.state base m)) ↔ IsChangeSince v.state l base op)
-          (sym has.last)
-          (told_changed are op, changed_told are op));
+          (λ e. can.apart (sym receiver ∙ e ∙ sender)) (omega (arith, since, low)) has.low.1 has.low.2;
+      short = is_short are of_few has.fit names n has.entries;
+      changes = λ op.
+          ((λ h. ((tells.changes op).0 h).1), (λ d. (tells.changes op).1 (is_keyed lawful v.last base op d, d)));
     }

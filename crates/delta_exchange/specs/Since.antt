@@ -1,10 +1,10 @@
 -- What changed of a replica with versions after one of them: what a message tells of it, and which
 -- entries that makes, by the marks.
-use Rattle.std.specs.Prelude.{◌≡◌, ◌≢◌, ℕ, ◌<◌, ◌≤◌, ◌↔◌, ◌==◌, ◌||◌, Bool, nat_lt, List, [], ◌∷◌, length, if◌then◌else◌, Option, Some, None, IsSome}
-use Rattle.std.specs.List.{flat_map}
+use Rattle.std.specs.Prelude.{◌≡◌, ◌≢◌, ℕ, ◌<◌, ◌≤◌, ◌↔◌, ◌==◌, ◌||◌, Bool, nat_lt, List, [], ◌∷◌, length, map, if◌then◌else◌, Option, Some, None, IsSome}
+use Rattle.std.specs.List.{AllByRecursion, flat_map}
 use Rattle.std.specs.BTreeMap.{IsOrdered}
 use Rattle.stamp_register.specs.Keys.{KeyValue}
-use Rattle.operations.specs.Operations.{Operation, IsIn}
+use Rattle.operations.specs.Operations.{Operation, IsIn, name_in}
 use Rattle.replica_state.specs.States.{State}
 use Rattle.replica_state.specs.Folds.{fold}
 use Rattle.replica_state.specs.Points.{Held}
@@ -17,11 +17,11 @@ use Rattle.delta_exchange.specs.declared.marks.Marks.{Marks}
 use Rattle.delta_exchange.specs.PassMarks.{pass_mark, last_mark}
 use Rattle.delta_exchange.specs.Marks.{cell_change}
 use Rattle.message_format.specs.Messages.{EntryValue, MessageValue, operations_in}
-use Rattle.message_format.specs.Spelling.{IsMessage, message_bytes, max_message}
+use Rattle.message_format.specs.Spelling.{IsMessage, Ascend, hit_place, exec_place, shift_place, grant_place, message_bytes, max_message}
 use Rattle.delta_exchange.specs.Cells.{cell_of}
 use Rattle.message_format.specs.Limits.{max_nodes, max_names}
 use Rattle.delta_exchange.specs.Wholes.{AreLawful}
-use Rattle.delta_exchange.specs.Changes.{IsChangeSince}
+use Rattle.delta_exchange.specs.Changes.{LastChanges, IsChangeSince}
 use Rattle.delta_exchange.specs.Versions.{VersionedValue}
 
 -- a state that one node of a cluster can tell another in a message
@@ -33,7 +33,31 @@ pub record CanBeTold (nodes from to : ℕ) (v : State) : Type 0 where
   pub lawful : (ops : List Operation) × (v ≡ fold ops) × AreLawful nodes ops
   pub few_names : length v.names ≤ max_names
 
--- a message of one node to another that tells just what changed after a version, which is its base
+-- its cells stand in order, none of them twice, and it tells what a node moved to itself as a grant
+pub record IsInOrder (e : EntryValue) : Type 0 where
+  pub hits : Ascend (map hit_place e.hits)
+  pub execs : Ascend (map exec_place e.execs)
+  pub shifts : Ascend (map shift_place e.shifts)
+  pub apart : AllByRecursion (λ c. c.2 ≢ c.1) e.shifts
+  pub grants : Ascend (map grant_place e.grants)
+
+-- a change after a version, of a name that has a key: one without a key has no entry in a message
+abbrev pub IsToldSince : State → LastChanges → ℕ → Operation → Type 0
+IsToldSince v last base op = IsSome (v.key (name_in op)) × IsChangeSince v last base op
+
+-- a message that tells just what changed after a version, which is its base, of the names that have a
+-- key: each once, in order
+pub record TellsSince (from to base : ℕ) (v : VersionedValue) (m : MessageValue) : Type 0 where
+  pub sender : m.from ≡ from
+  pub receiver : m.to ≡ to
+  pub since : m.base ≡ base
+  pub upto : m.upto ≡ v.version
+  pub ack : m.ack ≡ v.known to
+  pub names_ascend : Ascend (map (λ e. e.name) m.entries)
+  pub in_order : AllByRecursion IsInOrder m.entries
+  pub changes : (op : Operation) → IsIn op (operations_in m) ↔ IsToldSince v.state v.last base op
+
+-- such a message of a state that can be told: it can be written, and tells all that changed
 pub record IsMessageSince (nodes from to base : ℕ) (v : VersionedValue) (m : MessageValue) : Type 0 where
   pub sender : m.from ≡ from
   pub receiver : m.to ≡ to

@@ -11,7 +11,7 @@ ghost use Rattle.replica_state.specs.Stored.{reader_held};
 ghost use Rattle.message_format.specs.Messages.{entry_value, message_value};
 ghost use Rattle.delta_exchange.specs.Cells.{HitsFit, ExecsFit, ShiftsFit, EntryFits, EntriesFit};
 ghost use Rattle.delta_exchange.specs.Versions.{value_of};
-ghost use Rattle.delta_exchange.specs.Since.{CanBeTold, IsMessageSince, AreCellsOrdered};
+ghost use Rattle.delta_exchange.specs.Since.{CanBeTold, TellsSince, IsMessageSince, AreCellsOrdered};
 ghost use Rattle.delta_exchange.specs.Since.{hit_of, exec_of, shift_of, grant_of};
 ghost use Rattle.delta_exchange.specs.Since.{hits_since, execs_since, shifts_since, grants_since};
 ghost use Rattle.delta_exchange.specs.Since.{entry_since, entry_under, entries_since, tells_cells};
@@ -294,10 +294,12 @@ fn entries_since<R: Replica>(
 impl<R: Replica> Versioned<R> {
     /// What changed after a version of this replica, as a message from one node of a cluster to
     /// another: of each name with a key of which anything did its key, and the cells that did and
-    /// aren't 0. Its base is that version.
+    /// aren't 0. Its base is that version. Names and cells stand in order.
     ///
-    /// Of at most 32 nodes and 256 names it is never too long to be written. Only out of memory is
-    /// an error. The names that have marks are walked once, in their order. Of a name of which
+    /// A state of at most 32 nodes and 256 names always gives a message that can be written.
+    ///
+    /// Errors: out of memory.
+    /// The names that have marks are walked once, in their order. Of a name of which
     /// nothing changed one mark alone is looked at, and of others the cells that have a mark.
     pub fn changed_since(
         &self,
@@ -306,7 +308,9 @@ impl<R: Replica> Versioned<R> {
         from: u8,
         to: u8,
     ) -> Result<Message, AllocError>
-        ensures { IfOk result (λ m. (nodes : ℕ)
+        ensures told { IfOk result (λ m. TellsSince from to base
+            (value_of R.state self.now) (message_value m)) }
+        ensures spelled { IfOk result (λ m. (nodes : ℕ)
             → CanBeTold nodes from to (value_of R.state self.now).state
             → IsMessageSince nodes from to base (value_of R.state self.now) (message_value m)) }
     {

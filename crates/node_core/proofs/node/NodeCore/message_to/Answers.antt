@@ -12,7 +12,7 @@ encode-requires c =
     let node = c.self.inside in
     let k = kept_of node.config node.history.calls in
     let to = rw (← c.self.view_is) at c.requires.to in
-    let since = c.in_ok-message.ensures k.config.nodes (can_be_told k node.clock (value_in node.replica)
+    let since = c.in_ok-message.ensures.spelled k.config.nodes (can_be_told k node.clock (value_in node.replica)
     c.self.invariant c.args.to to.0 to.1) in
     (k.config.nodes, (since.spelled, refl, since.short))
 
@@ -25,7 +25,7 @@ returns c =
     let node = c.self.inside in
     let k = kept_of node.config node.history.calls in
     let to = rw (← c.self.view_is) at c.requires.to in
-    let since = c.in_ok-message.ensures k.config.nodes (can_be_told k node.clock (value_in node.replica)
+    let since = c.in_ok-message.ensures.spelled k.config.nodes (can_be_told k node.clock (value_in node.replica)
     c.self.invariant c.args.to to.0 to.1) in
     let since_known = rw c.acked-base.ensures at since in
     let told = told_since k c.args.to (value_in node.replica) (message_value c.in_ok-message.message) c.self.invariant.1
