@@ -285,17 +285,19 @@ delta_may_send c es s i base chosen delta = delta_may ((world c es).node i).ops 
 pub told_may : (marks : Marks) (to : ℕ) → MayTell marks to (versions_told marks to)
 told_may marks to = record { base = omega arith; upto = omega arith; ack = omega arith }
 
+-- so what differs is among what may be sent
+pub delta_allows : (c : Cluster) (es : List Event) → IsSchedule c es → (i : ℕ) (a : Option Asked) →
+    AllowsDelta (world c es) i a → Allows (world c es) i a
+delta_allows c es s i None h = tt
+delta_allows c es s i (Some (asks.Emit to versions chosen)) h = (
+  subst (MayTell ((world c es).node i).marks to) (sym h.0) (told_may ((world c es).node i).marks to),
+  delta_may_send c es s i (((world c es).node i).past versions.base) chosen h.1,
+)
+delta_allows c es s i (Some (asks.Deliver read)) h = h
+delta_allows c es s i (Some ask) h = h
+
 pub deltas_are_schedules : (c : Cluster) (es : List Event) → IsDeltaSchedule c es → IsSchedule c es
 deltas_are_schedules c [] s = tt
 deltas_are_schedules c (e ∷ es) s =
     let before = deltas_are_schedules c es s.1 in
-    (allowed before (accepted c (world c es) e e.node) s.0, before)
-  where
-    allowed : IsSchedule c es → (a : Option Asked) → AllowsDelta (world c es) e.node a → Allows (world c es) e.node a
-    allowed before None h = tt
-    allowed before (Some (asks.Emit to versions chosen)) h = (
-      subst (MayTell ((world c es).node e.node).marks to) (sym h.0) (told_may ((world c es).node e.node).marks to),
-      delta_may_send c es before e.node (((world c es).node e.node).past versions.base) chosen h.1,
-    )
-    allowed before (Some (asks.Deliver read)) h = h
-    allowed before (Some ask) h = h
+    (delta_allows c es before e.node (accepted c (world c es) e e.node) s.0, before)

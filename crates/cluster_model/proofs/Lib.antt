@@ -8,7 +8,6 @@ pub mod Conserved
 pub mod Versions
 pub mod Honest
 pub mod Replays
-pub mod Resumes
 pub mod HonestBytes
 pub mod Replies
 pub mod Closed
@@ -23,6 +22,10 @@ pub mod Budgets
 pub mod NotOverspent
 pub mod DeltaMessages
 pub mod Lists
+pub mod LostCalls
+pub mod Lives
+pub mod Restarts
+pub mod LivesBound
 pub mod Placed
 pub mod WorldSteps
 pub mod WorldCalls
@@ -39,3 +42,4 @@ pub mod ExampleOvertakenKey
 pub mod ExampleThreeNodes
 pub mod ExampleSpendFirst
 pub mod ExampleKnownVersions
+pub mod ExampleLostShift

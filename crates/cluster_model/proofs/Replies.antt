@@ -30,7 +30,7 @@ abbrev new_call : ℕ → Node → Asked → List ℕ → Call
 new_call i n ask words = record { ask = ask; words = words; reply = reply i n ask words }
 
 -- a call of the trace was there, or is the one that is accepted now
-call_cases : (i : ℕ) (n : Node) (trace : List Call) (a : Option Asked) (words : List ℕ) (call : Call) →
+pub call_cases : (i : ℕ) (n : Node) (trace : List Call) (a : Option Asked) (words : List ℕ) (call : Call) →
     IsIn call (trace_after i n trace a words) →
     IsIn call trace ⊎ ((ask : Asked) × (a ≡ Some ask) × (call ≡ new_call i n ask words))
 call_cases i n trace None words call h = inl h

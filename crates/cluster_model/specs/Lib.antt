@@ -3,7 +3,7 @@ pub mod Schedules
 pub mod Views
 pub mod Histories
 pub mod Laws
-pub mod Resumed
+pub mod Lives
 pub mod Events
 pub mod Places
 pub mod Runs

@@ -17,7 +17,9 @@ ghost use Rattle.cluster_model.specs.Laws.{DeltaIsOne, IsLegalEmit, PastBegins, 
 ghost use Rattle.cluster_model.specs.Laws.{PastStays, PastIsState, KnownVersionIsReached};
 ghost use Rattle.cluster_model.specs.Laws.{KnownVersionIsBelow, KnownVersionsSameState};
 ghost use Rattle.cluster_model.specs.Laws.{EachVersionSeesWhole};
-ghost use Rattle.cluster_model.specs.Resumed.{ResumedIsSame, ResumedIsTaken};
+ghost use Rattle.cluster_model.specs.Lives.{LivesAreRuns, DeltaLivesAreRuns, DeltaLivesAreLives};
+ghost use Rattle.cluster_model.specs.Lives.{AnsweredIsKept, SchedulesAreLives, RestartGoesOn};
+ghost use Rattle.cluster_model.specs.Lives.{WholeRestartGoesOn, RestartIsTaken, LivesAreConserved};
 
 /// Each event of a schedule is a call of one node: it is refused, and changes nothing, or it changes
 /// that node by the step that the contracts of `NodeCore` cite, and its trace tells all of it. The
@@ -105,10 +107,29 @@ pub fn known_versions()
     ensures whole { EachVersionSeesWhole }
 {}
 
-/// A cluster in which nodes end and go on from all that they did is one in which none ended, so that
-/// all that holds of schedules holds of it. And no node is refused what it did: its own calls are such
-/// as a node of its number gives (`NodeCore::resume`).
-pub fn resumed()
-    ensures same { ResumedIsSame }
-    ensures taken { ResumedIsTaken }
+/// A cluster whose nodes end at any moment, each of which restarts from a prefix of its calls: where
+/// the calls behind it, which are lost, are none whose caller got its reply or whose message was
+/// delivered, the cluster is a run without the lost calls, and each call whose caller got its reply is
+/// in that run. So it is of nodes that send what they choose, and of those that send what differs.
+pub fn lives()
+    ensures any { LivesAreRuns }
+    ensures deltas { DeltaLivesAreRuns }
+    ensures also { DeltaLivesAreLives }
+    ensures answered { AnsweredIsKept }
+{}
+
+/// A node may restart from its first calls if these have each call whose caller got its reply, and that
+/// of each message that was delivered; and so from all of its calls. A cluster in which no node ends is
+/// one of these lives.
+pub fn restarts()
+    ensures none { SchedulesAreLives }
+    ensures some { RestartGoesOn }
+    ensures whole { WholeRestartGoesOn }
+    ensures taken { RestartIsTaken }
+{}
+
+/// So rights are conserved over each such life, and its traces have no more executions of a term than
+/// what was counted and what was granted by calls that aren't lost.
+pub fn bounded()
+    ensures { LivesAreConserved }
 {}
