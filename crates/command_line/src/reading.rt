@@ -1,7 +1,9 @@
 //! What a command line asks for.
 
-ghost use Rattle.std.specs.Prelude.{IfOk};
+ghost use Rattle.std.specs.Prelude.{◌≡◌, IfOk};
 ghost use Rattle.command_line.specs.Guarded.{IsGuarded, IsGuardedInvocation};
+ghost use Rattle.clap.specs.Matches.{found_of};
+ghost use Rattle.command_line.specs.Listening.{IsWhereItListens, listen_word};
 
 use crate::addresses::{port_here, read_address};
 use crate::guarding::first_unguarded;
@@ -159,8 +161,10 @@ fn whole_command<'a>(alloc: Global, extent: Extent) -> Result<Command<'a>, Alloc
     Ok(command)
 }
 
-// Where a node is to listen: one of the two is given.
-fn listen_address(alloc: Global, matches: &ArgMatches<'_>) -> Result<SocketAddr, Error> {
+// Where a node is to listen: at the address of `--listen`, or else at a port of 127.0.0.1.
+fn listen_address(alloc: Global, matches: &ArgMatches<'_>) -> Result<SocketAddr, Error>
+    ensures { IfOk result (IsWhereItListens (listen_word (found_of matches.now))) }
+{
     let Some(word) = matches.get_str("listen") else {
         return Ok(port_here(matches.get_one::<u16>("port").unwrap_or(0)));
     };
@@ -177,7 +181,8 @@ fn listen_address(alloc: Global, matches: &ArgMatches<'_>) -> Result<SocketAddr,
 
 // The options with their addresses, for which a key is there where one is needed.
 fn guarded<'a>(alloc: Global, options: ServeOptions<'a>) -> Result<ServeOptions<'a>, Error>
-    ensures { IfOk result IsGuarded }
+    ensures guarded { IfOk result IsGuarded }
+    ensures same { IfOk result (λ given. given ≡ options.entry) }
 {
     if options.key_file.is_some() {
         return Ok(options);
@@ -242,7 +247,9 @@ fn gossip_options(
 
 // What is given where the values of a serve command have passed their parsers. The addresses haven't yet.
 fn serve_options<'a>(alloc: Global, matches: &ArgMatches<'a>) -> Result<ServeOptions<'a>, Error>
-    ensures { IfOk result IsGuarded }
+    ensures guarded { IfOk result IsGuarded }
+    ensures listens { IfOk result (λ options.
+        IsWhereItListens (listen_word (found_of matches.now)) options.listen) }
 {
     let nodes = matches.get_one::<u8>("nodes").unwrap_or(0);
     let telling = gossip_options(alloc, matches, nodes)?;
