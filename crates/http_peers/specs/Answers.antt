@@ -14,7 +14,7 @@ use Rattle.http_peers.specs.Shown.{with_peers}
 abbrev pub waiting_text : ℕ → List ℕ
 waiting_text node =
     codes "not heard yet: node " ++ (decimal node ++
-    codes ": calls are taken once each other node was heard: see that it runs and tells this one")
+    codes ": calls are accepted once all nodes sent a message: start it, with this node as a peer")
 
 abbrev pub IsWaiting : ℕ → ReplyValue → Type 0
 IsWaiting node given = IsReply (text_reply 503 (waiting_text node)) given

@@ -30,8 +30,8 @@ fn waiting(alloc: Global, node: u8) -> HttpReply
     ensures { IsWaiting node (http_value result) }
 {
     let text = format!(in alloc;
-        "not heard yet: node {node}: calls are taken once each other node was heard: see that it \
-         runs and tells this one"
+        "not heard yet: node {node}: calls are accepted once all nodes sent a message: start \
+         it, with this node as a peer"
     );
     HttpReply::written(alloc, 503, text)
 }

@@ -76,7 +76,9 @@ impl ErrorKind {
     /// What to do about it.
     fn advice(self) -> &'static str {
         match self {
-            ErrorKind::CapReached => "start a new run with a greater limit: it holds for a node's life",
+            ErrorKind::CapReached => {
+                "start a new run with a greater limit: it holds for a node's life"
+            }
             ErrorKind::BadName => "a name is 1 to 128 ASCII letters, digits, `_`, `-`, `.` and `:`",
             ErrorKind::BadText => {
                 "write actions as `20%3*return(text)->off`, with one of off, return, sleep, panic, \
@@ -94,15 +96,18 @@ impl ErrorKind {
             ErrorKind::NumberFull => "start a new run",
             ErrorKind::BadMessage => "deliver the whole bytes that a node of this cluster emitted",
             ErrorKind::WrongReceiver => "deliver it to the node that it was emitted to",
-            ErrorKind::Forgotten => "restart with the node's journal, or use a number that was never used",
-            ErrorKind::Overspent => "find the node that restarted without its journal, or the source of forged messages",
+            ErrorKind::Forgotten => {
+                "restart with the node's journal, or use a number that was never used"
+            }
+            ErrorKind::Overspent => {
+                "find the node that restarted without its journal, or the source of forged messages"
+            }
             ErrorKind::BadConfig => {
                 "a cluster has 1 to 32 nodes, and the number of a node is below that"
             }
             ErrorKind::OutOfMemory => "repeat the call",
             ErrorKind::NotHeard => {
-                "changes are accepted once every other node has sent a message: check that it runs, and \
-                 has this node as a peer"
+                "calls are accepted once all nodes sent a message: start it, with this node as a peer"
             }
             ErrorKind::Closed => "open another",
             ErrorKind::AlreadyOpen => "set it up before anything else uses the program's points",
@@ -125,9 +130,7 @@ impl ErrorKind {
                 "check the path and permissions; use the node's own journal, or a new file for a number \
                  that was never used"
             }
-            ErrorKind::PartInUse => {
-                "end that process, and give each node a journal of its own"
-            }
+            ErrorKind::PartInUse => "end that process, and give each node a journal of its own",
             ErrorKind::BadRecorder => {
                 "give each cluster a recorder of its own, and each of its nodes once"
             }
@@ -314,8 +317,7 @@ mod tests {
     #[test]
     fn an_error_says_where_what_and_what_to_do() {
         let error = Error::of_status(11, "N11 TooFewRights have=2").at_point("save");
-        let told =
-            "point \"save\": N11 TooFewRights have=2: shift at most that, or grant some first";
+        let told = "point \"save\": N11 TooFewRights have=2: transfer at most that many, or grant some first";
         assert_eq!(error.to_string(), told);
     }
 }

@@ -333,7 +333,8 @@ fn rights_and_arguments_are_refused_by_kind() {
         assert_eq!((kind, found), (ErrorKind::BadArgument, code));
     }
     let told = a.shift("p", 0, 1, 4).unwrap_err().to_string();
-    let wanted = "point \"p\": N11 TooFewRights have=3: shift at most that, or grant some first";
+    let wanted =
+        "point \"p\": N11 TooFewRights have=3: transfer at most that many, or grant some first";
     assert_eq!(told, wanted);
     let small = Registry::open(0, 1, 1000).unwrap();
     (0..256).for_each(|n| assert!(small.set(&format!("p{n}"), "off").is_ok()));

@@ -11,8 +11,8 @@ use std::sync::atomic::{AtomicU32, Ordering};
 use std::sync::{Arc, Mutex};
 use std::time::Duration;
 
-const WAITING: &str = "not heard yet: node 2: calls are taken once each other node was heard: see that \
-                       it runs and tells this one";
+const WAITING: &str = "not heard yet: node 2: calls are accepted once all nodes sent a message: start it, \
+                       with this node as a peer";
 
 fn open(number: u8) -> Registry {
     Registry::open(number, 3, 1000).unwrap()
