@@ -1,28 +1,34 @@
 //! What no contract says: that what callers are told is what the trace has, and that two nodes have two
 //! locks; what mailboxes carry, what rounds send and when, and what a wire that fails leaves behind.
-//! And a run of events, and a node that is made again of its calls, which no program makes.
+//! And tables of what scripts, nodes and clusters answer, each answer found by hand.
 
+mod entries;
 mod events;
 mod failing;
+mod fleet;
 mod mail;
+mod messages;
+mod nodes;
+mod printed_scripts;
 mod registry;
 mod resumed;
 mod rounds;
 mod stage;
 
 use actions::Name;
-use cluster_model::{Event, RunReport, World};
+use cluster_model::{Event, RunReport, World, WorldFault};
 use failing::{Failing, Fails};
+use fleet::many_points;
 use gossip::WireError::{Failed, Full, NoPeer, OutOfMemory};
 use gossip::{
     Ended, GossipReport, MailWire, Pace, Reach, Wire, WireError, gossip_news, gossip_rounds,
 };
-use node_core::{AskRef, Config, NodeCore, NodeFault, Receipt, Reply, Trace};
+use node_core::{Ask, AskRef, Config, Entry, NodeCore, NodeFault, Receipt, Reply, Trace};
 use node_registry::{Label, PassOutcome, PassReceipt, Registry, Seat};
 use stage::{EMPTY, FIRST_OF_THREE, FIRST_OF_TWO, SECOND_OF_TWO, opened};
 use stamp_register::Stamp;
 use std::alloc::{AllocError, Global};
-use std::fmt::Debug;
+use std::fmt::{Debug, Write};
 use std::marker::Brand;
 use std::process::Abort;
 use std::sync::Wait;
