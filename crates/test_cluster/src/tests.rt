@@ -1,7 +1,9 @@
 //! What no contract says: that what callers are told is what the trace has, and that two nodes have two
 //! locks; what mailboxes carry, what rounds send and when, and what a wire that fails leaves behind.
-//! And tables of what scripts, nodes and clusters answer, each answer found by hand.
+//! And tables of what scripts, nodes, clusters, audits and requests are answered, each answer found by
+//! hand.
 
+mod audits;
 mod entries;
 mod events;
 mod failing;
@@ -11,6 +13,7 @@ mod messages;
 mod nodes;
 mod printed_scripts;
 mod registry;
+mod requests;
 mod resumed;
 mod rounds;
 mod stage;
