@@ -1,8 +1,43 @@
 -- What a node does with the key of a file.
-use Rattle.std.specs.Prelude.{◌≡◌, option_map, string_bytes}
-use Rattle.http_service.specs.Keys.{credentials_in}
+use Rattle.std.specs.Prelude.{◌≡◌, ◌<◌, ◌≤◌, ⊤, ℕ, List, length, Option, Some, IfSome, option_map, string_bytes}
+use Rattle.http_service.specs.Keys.{credentials_in, credentials_of}
+use Rattle.node_calls.specs.declared.fault.NodeFault.TheVariants.{OutOfMemory}
+use Rattle.node_service.specs.declared.fault.ServiceFault.{ServiceFault}
+use Rattle.node_service.specs.declared.fault.ServiceFault.TheVariants as faults
+use Rattle.node_service.specs.declared.key_file.KeyFault.{KeyFault}
+use Rattle.node_service.specs.declared.key_file.KeyFault.TheVariants as keys
 use Rattle.node_service.specs.declared.key_file.Keyed.{Keyed}
 
--- what is asked of clients is what peers are sent; where there is no key, neither is anything
+-- the credentials that peers are sent
+abbrev pub sent_in : Keyed → Option (List ℕ)
+sent_in keyed = option_map (λ key. string_bytes key.credentials) keyed.key
+
+-- clients are asked for the credentials that peers are sent, or neither are there
 abbrev pub AsksForWhatItSends : Keyed → Type 0
-AsksForWhatItSends keyed = credentials_in keyed.access ≡ option_map (λ key. string_bytes key.credentials) keyed.key
+AsksForWhatItSends keyed = credentials_in keyed.access ≡ sent_in keyed
+
+-- clients are asked for the key of these bytes, and peers are sent it
+pub record IsKeyedBy (bytes : List ℕ) (keyed : Keyed) : Type 0 where
+  pub asks : credentials_in keyed.access ≡ Some (credentials_of bytes)
+  pub sends : sent_in keyed ≡ Some (credentials_of bytes)
+
+-- the key is 32 to 1,024 bytes: all that a reader has to give, where it tells them
+pub record HasKeyOf (input : Option (List ℕ)) (keyed : Keyed) : Type 0 where
+  pub bytes : List ℕ
+  pub whole : IfSome input (λ given. given ≡ bytes)
+  pub least : 32 ≤ length bytes
+  pub most : length bytes ≤ 1024
+  pub used : IsKeyedBy bytes keyed
+
+-- why bytes couldn't be read as a key: there are too many, or the reader failed
+abbrev pub IsReadFault : List ℕ → KeyFault → Type 0
+IsReadFault bytes keys.TooLong = 1024 < length bytes
+IsReadFault bytes (keys.CantRead error) = ⊤
+IsReadFault bytes other = ⊥
+
+-- why bytes are no key: the same, or there are too few, or memory was refused
+abbrev pub IsFaultOf : List ℕ → ServiceFault → Type 0
+IsFaultOf bytes (faults.Key (keys.TooShort count)) = (count ≡ length bytes) × (count < 32)
+IsFaultOf bytes (faults.Key fault) = IsReadFault bytes fault
+IsFaultOf bytes (faults.Node fault) = fault ≡ OutOfMemory
+IsFaultOf bytes other = ⊥
