@@ -139,11 +139,12 @@ fn expect_entries(
     rt: &impl Abort,
     alloc: Global,
     text: &str,
-    wanted: &(usize, &str),
+    len: usize,
+    wanted: &str,
 ) -> Result<(), AllocError> {
     let read = number_of_entries(alloc, text);
     let found = outcome(alloc, read, SettingFault::OutOfMemory)?;
-    expect(rt, &(text.len(), found.as_str()), wanted);
+    expect(rt, &(text.len(), found.as_str()), &(len, wanted));
     Ok(())
 }
 
@@ -151,7 +152,7 @@ fn expect_entries(
 fn long_setting_texts(rt: HostRuntime) -> Result<(), Fail> {
     for (piece, times, last, len, wanted) in LONG_SETTINGS {
         let text = repeated(rt.alloc(), piece, *times, last)?;
-        expect_entries(&rt, rt.alloc(), text.as_str(), &(*len, *wanted))?;
+        expect_entries(&rt, rt.alloc(), text.as_str(), *len, wanted)?;
     }
     Ok(())
 }
