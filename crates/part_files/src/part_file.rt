@@ -75,7 +75,10 @@ impl fmt::Display for OpenFault {
 }
 
 impl From<AllocError> for OpenFault {
-    ghost from_gives = { λ _ fault. fault ≡ OpenFault.Lines PartFault.OutOfMemory };
+    ghost use Rattle.part_files.specs.declared.part_file.OpenFault.TheVariants as open_faults;
+    ghost use Rattle.part_keeper.specs.declared.fault.PartFault.TheVariants as part_faults;
+
+    ghost from_gives = { λ _ fault. fault ≡ open_faults.Lines part_faults.OutOfMemory };
 
     fn from(_error: AllocError) -> OpenFault {
         OpenFault::Lines(PartFault::OutOfMemory)
@@ -83,7 +86,9 @@ impl From<AllocError> for OpenFault {
 }
 
 impl From<PartFault> for OpenFault {
-    ghost from_gives = { λ fault given. given ≡ OpenFault.Lines fault };
+    ghost use Rattle.part_files.specs.declared.part_file.OpenFault.TheVariants as open_faults;
+
+    ghost from_gives = { λ fault given. given ≡ open_faults.Lines fault };
 
     fn from(fault: PartFault) -> OpenFault {
         OpenFault::Lines(fault)
@@ -365,8 +370,17 @@ where
     let file = locked(rt, options.path)?;
     let own = head_of(alloc, registry.with(rt, |core| core.config()), options.run)?;
     let first = first_line(alloc, &own)?;
+    let mut target = &file;
     let had = resume(
-        rt, alloc, registry, seat, &file, &mut &file, options, &first, &own,
+        rt,
+        alloc,
+        registry,
+        seat,
+        &file,
+        &mut target,
+        options,
+        &first,
+        &own,
     )?;
     Ok(OpenPart {
         file: PartFile::new(file, options.is_synced),
