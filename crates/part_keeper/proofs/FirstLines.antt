@@ -1,6 +1,6 @@
 -- The first line of bytes, as it is taken of a reader.
 use Rattle.std.proofs.Common.{◌≡◌, ◌≢◌, All, eq-eqb, ℕ, ◌+◌, ◌-◌, ◌<◌, ◌≤◌, ◌==◌, Bool, true, false, List, [], ◌∷◌, ◌++◌, length, take, drop, Option, Some, None, refl, sym, ap, ◌∙◌, subst, arith, append_assoc, length-append, take-append-drop, take_all, inl, inr, ◌⊎◌}
-use Rattle.std.specs.Prelude.{IfSome, nat_le, nat_lt, slice_index, if◌then◌else◌}
+use Rattle.std.specs.Prelude.{IfSome, nat_le, nat_lt, if◌then◌else◌}
 use Rattle.std.specs.Io.BufRead.{ends_with_byte, strip_last, take_through}
 use Rattle.std.proofs.lemmas.List.Elements.{All-cons, All-nil}
 use Rattle.std.proofs.lemmas.Bool.{cases_Bool, cond-false, cond-true, eqb-true, lt-ltb, or_from, or_parts}

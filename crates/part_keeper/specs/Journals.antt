@@ -1,5 +1,5 @@
 -- The lines of a journal that is read, and how far a node repeats their calls.
-use Rattle.std.specs.Prelude.{◌≡◌, ℕ, ◌+◌, ◌<◌, ◌≤◌, false, List, [], ◌∷◌, ◌++◌, length, take, drop, flat_map, slice_get, All, Option, Some, None}
+use Rattle.std.specs.Prelude.{◌≡◌, ℕ, ◌+◌, ◌<◌, ◌≤◌, false, List, [], ◌∷◌, ◌++◌, length, take, drop, flat_map, All, Option, Some, None}
 use Rattle.std.specs.Io.BufRead.{take_through}
 use Rattle.drills.specs.Drills.{lines_in, newline}
 use Rattle.drills.specs.Parts.{ended_in}

@@ -1,7 +1,6 @@
-use Rattle.std.proofs.Common.{◌≡◌, ◌≢◌, ◌++◌, ℕ, List, All, Ok, drop, length, true, false, refl, sym, ap, subst, ◌∙◌, rules, arith, length-append, length-drop}
+use Rattle.std.proofs.Common.{◌≡◌, ◌≢◌, ◌++◌, ℕ, List, All, Ok, drop, length, true, false, sym, ap, subst, ◌∙◌, rules, arith, length-append, length-drop}
 use lib.Seq.{drop-append-le}
 use Rattle.std.specs.Io.{StartsWith}
-use Rattle.std.specs.Io.KnownBytes.{Consumes}
 use Rattle.std.proofs.lemmas.List.Elements.{All-append}
 use Rattle.std.proofs.KnownBytes.{Consumes-more, starts_with_rest}
 use Rattle.std.proofs.Transfers.{starts_with_length, starts_with_trans}
@@ -33,13 +32,16 @@ loop-left-preserved g c =
     let step = c.append_ready.ensures in
     let now = c.loop-left.invariant in
     let on : c.append_ready.result ≡ Ok true = search rules in
-    let both = past_both _ _ _ now.appends step.appends in
+    let old = c.args.line.now.items in
+    let mid = c.loop-left.line.items in
+    let new = c.append_ready.new.line.items in
+    let both = past_both old mid new now.appends step.appends in
     record {
       appends = starts_with_trans _ _ _ step.appends now.appends;
       counted = omega (
         arith,
-        ap length both ∙ length-append _ _,
-        length-drop (length c.loop-left.line.items) c.append_ready.new.line.items,
+        ap length both ∙ length-append (drop (length old) mid) (drop (length mid) new),
+        length-drop (length mid) new,
         c.len.ensures,
         c.len-len.ensures,
         c.loop-left.line.ok.0,
