@@ -3,6 +3,7 @@
 #![tactic(auto)]
 
 mod gated_wire;
+mod journal_file;
 mod part_file;
 mod recording_wire;
 

@@ -1,17 +1,26 @@
 //! The file of a node's part: it is locked for this process, and the node goes on from what it has.
 
-ghost use Rattle.std.specs.Prelude.{◌≡◌, ◌+◌, false, IfOk};
+ghost use Rattle.std.specs.Prelude.{◌≡◌, ◌≢◌, ◌↔◌, ◌+◌, ◌⊎◌, false, true, Err, IfErr, IfOk};
+ghost use Rattle.std.specs.Prelude.{IfSome, OnOk, Some};
+ghost use Rattle.std.specs.Io.Buffered.{reader_inner};
+ghost use Rattle.std.specs.Io.KnownBytes.{Keeps};
+ghost use Rattle.streams.specs.Watched.{has_failed};
 ghost use Rattle.drills.specs.Lines.{head_told};
-ghost use Rattle.part_files.specs.Opened.{IsFirstLine, calls_of, end_of, head_of};
+ghost use Rattle.drills.specs.Taken.{IfBytes, bytes_left};
+ghost use Rattle.part_files.specs.Opened.{BeginsWith, HasJournal, IsFirstLine, IsOpenFault};
+ghost use Rattle.part_files.specs.Opened.{IsOtherHead, IsResumeFault, IsResumed, IsUntouched};
+ghost use Rattle.part_files.specs.Opened.{MakesReady};
+ghost use Rattle.part_files.specs.Opened.{calls_of, end_of, head_of};
 
+use crate::journal_file::JournalFile;
 use command_line::{PartOptions, quoted};
 use drills::{PartHead, part_head_in, part_head_text};
 use node_core::Config;
 use node_registry::{Label, Registry, Seat};
-use part_keeper::{PartFault, PartFile, Repeated, repeat_calls};
+use part_keeper::{PartFault, PartFile, Repeated, read_line, repeat_calls};
 use std::alloc::{AllocError, Global};
 use std::fs::{File, Files, OpenOptions, TryLockError};
-use std::io::{BufRead, BufReader, Read, Write};
+use std::io::{BufReader, Read, Write};
 use std::sync::Wait;
 use std::time::{Clock, Duration};
 use std::{fmt, fs, io, thread};
@@ -24,7 +33,7 @@ const TRIES: u32 = 20;
 const REST_MILLISECONDS: u64 = 10;
 
 /// How much of a first line is read that isn't this node's, to say of what it is.
-const MOST_OF_HEAD: u64 = 4096;
+const MOST_OF_HEAD: usize = 4096;
 
 /// Why a part isn't opened. The file is as it was then, but where it couldn't be begun.
 #[derive(Debug, Drop)]
@@ -66,12 +75,21 @@ impl fmt::Display for OpenFault {
 }
 
 impl From<AllocError> for OpenFault {
+    ghost use Rattle.part_files.specs.declared.part_file.OpenFault.TheVariants as open_faults;
+    ghost use Rattle.part_keeper.specs.declared.fault.PartFault.TheVariants as part_faults;
+
+    ghost from_gives = { λ _ fault. fault ≡ open_faults.Lines part_faults.OutOfMemory };
+
     fn from(_error: AllocError) -> OpenFault {
         OpenFault::Lines(PartFault::OutOfMemory)
     }
 }
 
 impl From<PartFault> for OpenFault {
+    ghost use Rattle.part_files.specs.declared.part_file.OpenFault.TheVariants as open_faults;
+
+    ghost from_gives = { λ fault given. given ≡ open_faults.Lines fault };
+
     fn from(fault: PartFault) -> OpenFault {
         OpenFault::Lines(fault)
     }
@@ -109,22 +127,6 @@ fn head_of(alloc: Global, config: Config, run: &str) -> Result<PartHead, AllocEr
     })
 }
 
-// Reads as far as the end of a line, and so many bytes at most.
-fn read_line<I: Read>(
-    reader: &mut BufReader<Watched<I>>,
-    most: u64,
-    line: &mut Vec<u8>,
-) -> Result<(), OpenFault> {
-    let taken = reader.by_ref().take(most).read_until(b'\n', line);
-    if reader.get_ref().failed() {
-        return Err(OpenFault::Lines(PartFault::ReadFailed));
-    }
-    match taken {
-        Ok(_) => Ok(()),
-        Err(_) => Err(OpenFault::Lines(PartFault::OutOfMemory)),
-    }
-}
-
 // What another first line says that the node's own doesn't.
 fn differences(alloc: Global, met: &[u8], own: &PartHead) -> Result<String, AllocError> {
     let Some(met) = part_head_in(alloc, met.strip_suffix(b"\n").unwrap_or(met))? else {
@@ -153,47 +155,85 @@ fn differences(alloc: Global, met: &[u8], own: &PartHead) -> Result<String, Allo
     format!(in alloc; "it isn't this node's: {told}")
 }
 
-// Whether a part is there: whether what is read begins with its first line, and not with a beginning
-// of that at most.
+// What a first line that isn't this node's says that the node's own doesn't, once more of it is read.
+fn other_head<I: Read>(
+    alloc: Global,
+    reader: &mut BufReader<Watched<I>>,
+    line: &mut Vec<u8>,
+    own: &PartHead,
+) -> Result<String, OpenFault>
+    ensures read_failed { (result ≡ Err (OpenFault.Lines PartFault.ReadFailed))
+        ↔ (has_failed (reader_inner reader.new) ≡ true) }
+    ensures only { IfErr result (λ fault. (fault ≡ OpenFault.Lines PartFault.ReadFailed)
+        ⊎ (fault ≡ OpenFault.Lines PartFault.OutOfMemory)) }
+{
+    if line.last() != Some(&b'\n') {
+        read_line(reader, MOST_OF_HEAD, line)?;
+    }
+    Ok(differences(alloc, line, own)?)
+}
+
+// Whether a journal is begun: it has its first line. It isn't if it has no more than a beginning of that
+// line, without the newline.
 fn is_begun<I: Read>(
     alloc: Global,
     reader: &mut BufReader<Watched<I>>,
     first: &[u8],
     own: &PartHead,
-) -> Result<bool, OpenFault> {
+) -> Result<bool, OpenFault>
+    requires { IsFirstLine (head_told own.now) first.now }
+    ensures begun { IfOk result (λ begun. IfBytes I.remaining reader.old (λ bytes.
+        BeginsWith begun first.now bytes (bytes_left I.remaining reader.new))) }
+    ensures other { IfErr result (λ fault. IfBytes I.remaining reader.old (λ bytes.
+        IsOtherHead first.now bytes fault)) }
+    ensures read_failed { (result ≡ Err (OpenFault.Lines PartFault.ReadFailed))
+        ↔ (has_failed (reader_inner reader.new) ≡ true) }
+{
     let mut line = Vec::new(alloc);
-    read_line(reader, first.len() as u64, &mut line)?;
+    read_line(reader, first.len(), &mut line)?;
     if line.as_slice() == first {
         return Ok(true);
     }
     if line.len() < first.len() && first.starts_with(&line) {
         return Ok(false);
     }
-    if line.last() != Some(&b'\n') {
-        read_line(reader, MOST_OF_HEAD, &mut line)?;
-    }
-    Err(OpenFault::OtherHead(differences(alloc, &line, own)?))
+    Err(OpenFault::OtherHead(other_head(alloc, reader, &mut line, own)?))
 }
 
-// Begins a part.
-fn begin<R: Files<File = File>>(
+// Has a journal's file with the disk, and its name as well, if that is wanted.
+fn sync_file<F: JournalFile, R: Files<File = File>>(
     rt: &R,
-    mut file: &File,
+    file: &mut F,
+    options: PartOptions<'_>,
+) -> io::Result<()>
+    ensures { OnOk result (Keeps (F.contents file.old) (F.contents file.new)) }
+{
+    if !options.is_synced {
+        return Ok(());
+    }
+    file.sync_all()?;
+    let folder = match options.path.rsplit_once('/') {
+        Some(("", _)) => "/",
+        Some((folder, _)) => folder,
+        None => ".",
+    };
+    fs::open(rt, folder)?.sync_all()?;
+    Ok(())
+}
+
+// Begins a journal: its file has the first line, and nothing else.
+fn begin<F: JournalFile, R: Files<File = File>>(
+    rt: &R,
+    file: &mut F,
     options: PartOptions<'_>,
     first: &[u8],
-) -> io::Result<()> {
+) -> io::Result<()>
+    ensures { OnOk result (IfSome (F.contents file.old) (λ _.
+        F.contents file.new ≡ Some first.now)) }
+{
     file.set_len(0)?;
     file.write_all(first)?;
-    if options.is_synced {
-        file.sync_all()?;
-        // Its name as well.
-        let folder = match options.path.rsplit_once('/') {
-            Some(("", _)) => "/",
-            Some((folder, _)) => folder,
-            None => ".",
-        };
-        fs::open(rt, folder)?.sync_all()?;
-    }
+    sync_file(rt, file, options)?;
     Ok(())
 }
 
@@ -206,26 +246,30 @@ fn first_line(alloc: Global, head: &PartHead) -> Result<Vec<u8>, AllocError>
     Ok(line.into_bytes())
 }
 
-// What the node has of its part, if it is begun: its calls are made again at the registry.
-fn gone_on<L: Label, I: Read + Drop, R: Wait>(
+// What a node has of its journal, if that is begun: the calls of its lines are repeated at the registry.
+fn gone_on<L: Label, I: Read, R: Wait>(
     rt: &R,
     alloc: Global,
     registry: &Registry<L>,
     seat: &mut Seat<L>,
-    input: I,
+    reader: &mut BufReader<Watched<I>>,
     first: &[u8],
     own: &PartHead,
 ) -> Result<Option<Repeated>, OpenFault>
-    requires { L.keeps ≡ false }
-    ensures { IfOk result (λ had. seat.new ≡ seat.old + calls_of had) }
+    requires keeps { L.keeps ≡ false }
+    requires first { IsFirstLine (head_told own.now) first.now }
+    ensures counted { IfOk result (λ had. seat.new ≡ seat.old + calls_of had) }
+    ensures journal { IfOk result (λ had. IfBytes I.remaining reader.old (λ bytes.
+        HasJournal L.config L.seed seat.old seat.new first.now bytes had)) }
+    ensures fault { IfErr result (λ fault. IfBytes I.remaining reader.old (λ bytes.
+        IsOpenFault L.config L.seed seat.old first.now bytes fault)) }
+    ensures read_failed { (result ≡ Err (OpenFault.Lines PartFault.ReadFailed))
+        ↔ (has_failed (reader_inner reader.new) ≡ true) }
 {
-    let Ok(mut reader) = BufReader::new(alloc, Watched::new(input)) else {
-        return Err(OpenFault::Lines(PartFault::OutOfMemory));
-    };
-    if !is_begun(alloc, &mut reader, first, own)? {
+    if !is_begun(alloc, reader, first, own)? {
         return Ok(None);
     }
-    let had = repeat_calls(rt, alloc, registry, seat, &mut reader)?;
+    let had = repeat_calls(rt, alloc, registry, seat, reader)?;
     // Their lines are written: only those of later calls are to be.
     drop(registry.give(rt, alloc, seat));
     Ok(Some(had))
@@ -245,18 +289,60 @@ fn end_of(had: Repeated, first: &[u8]) -> u64
     had.bytes.saturating_add(first.len() as u64)
 }
 
-// Has a part end behind its last whole line, or begins it.
-fn make_ready<R: Files<File = File>>(
+// Cuts a journal's file after its last whole line, or begins it.
+fn make_ready<F: JournalFile, R: Files<File = File>>(
     rt: &R,
-    file: &File,
+    file: &mut F,
     options: PartOptions<'_>,
     first: &[u8],
     had: Option<Repeated>,
-) -> io::Result<()> {
+) -> io::Result<()>
+    ensures { OnOk result (MakesReady first.now had
+        (F.contents file.old) (F.contents file.new)) }
+{
     match had {
         Some(had) => file.set_len(end_of(had, first)),
         None => begin(rt, file, options, first),
     }
+}
+
+// Resumes a node from its journal, which a reader gives and which stands in this file: repeats the calls
+// of its whole lines, and cuts off what follows them. A journal that isn't begun is begun. After any error
+// but `NotBegun` the file is as it was.
+fn resume<L, I, F, R>(
+    rt: &R,
+    alloc: Global,
+    registry: &Registry<L>,
+    seat: &mut Seat<L>,
+    input: I,
+    file: &mut F,
+    options: PartOptions<'_>,
+    first: &[u8],
+    own: &PartHead,
+) -> Result<Option<Repeated>, OpenFault>
+where
+    L: Label,
+    I: Read + Drop,
+    F: JournalFile,
+    R: Wait + Files<File = File>,
+    requires keeps { L.keeps ≡ false }
+    requires first { IsFirstLine (head_told own.now) first.now }
+    requires same { F.contents file.old ≡ I.remaining input }
+    ensures counted { IfOk result (λ had. seat.new ≡ seat.old + calls_of had) }
+    ensures resumed { IfOk result (λ had. IfSome (I.remaining input) (λ bytes.
+        IsResumed L.config L.seed seat.old seat.new first.now bytes had (F.contents file.new))) }
+    ensures fault { IfErr result (λ fault. IfSome (I.remaining input) (λ bytes.
+        IsResumeFault L.config L.seed seat.old first.now bytes fault)) }
+    ensures untouched { IfErr result (λ fault. IsUntouched fault file.old file.new) }
+{
+    let Ok(mut reader) = BufReader::new(alloc, Watched::new(input)) else {
+        return Err(OpenFault::Lines(PartFault::OutOfMemory));
+    };
+    let had = gone_on(rt, alloc, registry, seat, &mut reader, first, own)?;
+    if let Err(error) = make_ready(rt, file, options, first, had) {
+        return Err(OpenFault::NotBegun(error));
+    }
+    Ok(had)
 }
 
 /// A part that is open: its file, behind which the next lines go, and how many calls it has.
@@ -284,8 +370,18 @@ where
     let file = locked(rt, options.path)?;
     let own = head_of(alloc, registry.with(rt, |core| core.config()), options.run)?;
     let first = first_line(alloc, &own)?;
-    let had = gone_on(rt, alloc, registry, seat, &file, &first, &own)?;
-    make_ready(rt, &file, options, &first, had).map_err(OpenFault::NotBegun)?;
+    let mut target = &file;
+    let had = resume(
+        rt,
+        alloc,
+        registry,
+        seat,
+        &file,
+        &mut target,
+        options,
+        &first,
+        &own,
+    )?;
     Ok(OpenPart {
         file: PartFile::new(file, options.is_synced),
         calls: calls_of(had),

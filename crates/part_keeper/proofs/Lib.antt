@@ -1,2 +1,5 @@
+pub mod BoundedLines
+pub mod FirstLines
 pub mod Keeping
 pub mod MadeAgain
+pub mod Walks

@@ -1,3 +1,4 @@
+pub mod Journals
 pub mod Kept
 pub mod Outs
 pub mod Repeated

@@ -2,6 +2,7 @@
 //! and a node goes on from it.
 #![tactic(auto)]
 
+mod bounded_line;
 mod fault;
 mod lines;
 mod part_file;
@@ -9,6 +10,7 @@ mod recorder;
 mod recording;
 mod repeating;
 
+pub use bounded_line::read_line;
 pub use fault::{CallFault, LineFault, NotRecorded, PartFault};
 pub use lines::{PartLines, lines_of};
 pub use part_file::PartFile;

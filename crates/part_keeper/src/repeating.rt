@@ -1,23 +1,28 @@
 //! A node that goes on from a part: each of its calls is made again.
 
 ghost use Rattle.std.specs.Prelude.{◌≡◌, ◌↔◌, ◌⊎◌, ◌<◌, ◌+◌, ◌-◌, ◌^◌, IfOk, IsTrue, OnOk, false, Err};
-ghost use Rattle.std.specs.Prelude.{None};
+ghost use Rattle.std.specs.Prelude.{IfErr, None, true};
 ghost use Rattle.std.specs.Io.BufRead.{strip_last};
+ghost use Rattle.std.specs.Io.Buffered.{reader_inner};
+ghost use Rattle.streams.specs.Watched.{has_failed};
 ghost use Rattle.node_calls.specs.Told.{reply_told};
 ghost use Rattle.drills.specs.Reading.{entry_in as entry_read};
+ghost use Rattle.drills.specs.Taken.{IfBytes, bytes_left};
+ghost use Rattle.part_keeper.specs.Journals.{AreAllRepeated, IsFaultOf, IsTaken};
 ghost use Rattle.part_keeper.specs.Repeated.{IsOtherwise, IsRepeated, in_line, next_in};
 ghost use Rattle.part_keeper.specs.Repeated.{with_line};
 
+use crate::bounded_line::read_line;
 use crate::fault::{LineFault, PartFault};
 use drills::entry_in;
 use node_core::{Entry, NodeFault, Reply};
 use node_registry::{Label, Registry, Seat};
 use std::alloc::Global;
-use std::io::{BufRead, BufReader, Read};
+use std::io::{BufReader, Read};
 use std::sync::Wait;
 use streams::Watched;
 
-/// The most bytes of the line of a call: what `failreg audit` reads too.
+/// The most bytes of the line of a call, its newline among them.
 pub const MOST_OF_LINE: u64 = 268_435_456;
 
 /// How many calls are made again before the node forgets them.
@@ -139,20 +144,26 @@ fn next_of(line: &mut Vec<u8>) -> Next
 fn take_line<I: Read>(
     reader: &mut BufReader<Watched<I>>,
     line: &mut Vec<u8>,
-) -> Result<Next, PartFault> {
+) -> Result<Next, PartFault>
+    ensures taken { IfOk result (λ next. IfBytes I.remaining reader.old (λ bytes.
+        IsTaken next line.new.items bytes (bytes_left I.remaining reader.new))) }
+    ensures read_failed { (result ≡ Err PartFault.ReadFailed)
+        ↔ (has_failed (reader_inner reader.new) ≡ true) }
+    ensures only { IfErr result (λ fault.
+        (fault ≡ PartFault.ReadFailed) ⊎ (fault ≡ PartFault.OutOfMemory)) }
+{
     line.clear();
-    let taken = reader.by_ref().take(MOST_OF_LINE).read_until(b'\n', line);
-    if reader.get_ref().failed() {
-        return Err(PartFault::ReadFailed);
-    }
-    match taken {
-        Ok(_) => Ok(next_of(line)),
-        Err(_) => Err(PartFault::OutOfMemory),
-    }
+    read_line(reader, MOST_OF_LINE as usize, line)?;
+    Ok(next_of(line))
 }
 
-/// Makes the calls again whose lines a reader gives, which stand behind the first line of a part. A last
-/// line that no newline ends isn't one. Nothing of a line is kept.
+/// Repeats the calls of a node's journal, of which a reader gives what follows the first line, and returns
+/// how many these are and how many bytes their lines have. A last line without a newline isn't one. No
+/// line is kept.
+///
+/// Errors: at the first line that has no call (`NoCall`), whose call the node rejects or answers otherwise
+/// (`Differs`), or that is longer than `MOST_OF_LINE` (`TooLong`), counted from 1 with the journal's first
+/// line; `ReadFailed` if the reader failed; `OutOfMemory`.
 pub fn repeat_calls<L: Label, I: Read, R: Wait>(
     rt: &R,
     alloc: Global,
@@ -161,7 +172,13 @@ pub fn repeat_calls<L: Label, I: Read, R: Wait>(
     reader: &mut BufReader<Watched<I>>,
 ) -> Result<Repeated, PartFault>
     requires { L.keeps ≡ false }
-    ensures { IfOk result (λ r. seat.new ≡ seat.old + r.calls) }
+    ensures counted { IfOk result (λ r. seat.new ≡ seat.old + r.calls) }
+    ensures repeated { IfOk result (λ r. IfBytes I.remaining reader.old (λ bytes.
+        AreAllRepeated L.config L.seed seat.old seat.new bytes r)) }
+    ensures fault { IfErr result (λ fault. IfBytes I.remaining reader.old (λ bytes.
+        IsFaultOf L.config L.seed seat.old bytes fault)) }
+    ensures read_failed { (result ≡ Err PartFault.ReadFailed)
+        ↔ (has_failed (reader_inner reader.new) ≡ true) }
 {
     let mut line = Vec::new(alloc);
     let mut had = Repeated { calls: 0, bytes: 0 };
