@@ -3,7 +3,7 @@
 
 PREFIX ?= /usr/local
 
-# Builds without proofs and runs the main job: a count of 2 is spent, then the next term acts.
+# Builds without proofs and runs the main job: a count of 3 is spent, then the next term acts.
 demo:
 	cd crates/failreg && rt try -- sim --echo < ../../examples/first_count.in
 
