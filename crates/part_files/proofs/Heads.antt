@@ -1,11 +1,15 @@
 -- What a journal begins with.
 use Rattle.std.proofs.Common.{◌≡◌, ◌≢◌, ℕ, ◌+◌, ◌-◌, ◌<◌, ◌≤◌, min, Bool, true, false, List, [], ◌∷◌, ◌++◌, length, take, drop, Option, Some, None, refl, sym, ap, ◌∙◌, subst, arith, append-nil, append_assoc, length-append, take-append-drop, take_all, inl, inr, ◌⊎◌}
-use Rattle.std.specs.Prelude.{IfSome}
+use Rattle.std.specs.Prelude.{IfSome, nat_eq}
 use Rattle.std.specs.Io.{StartsWith}
 use Rattle.std.specs.Io.BufRead.{take_through}
 use Rattle.std.proofs.BufReadLemmas.{take_through-append}
 use Rattle.std.proofs.KnownBytes.{starts_with_rest}
 use Rattle.std.proofs.lemmas.List.{drop_at, length_push, length-take, take_at}
+use Rattle.std.specs.List.{starts_with}
+use Rattle.std.proofs.Transfers.{starts_with_of_append}
+use Rattle.std.proofs.lemmas.Bool.Decides.{Decides-eqb}
+use Rattle.std.proofs.lemmas.Slice.Eq.{starts_is}
 use Rattle.drills.specs.Drills.{newline}
 use Rattle.drills.specs.Parts.{ended_in}
 use Rattle.drills.specs.Written.{has_newline}
@@ -13,6 +17,15 @@ use Rattle.part_keeper.specs.Journals.{ReadsLine, line_within}
 use Rattle.part_files.specs.Opened.{BeginsWith, IsCutHead, IsForeign}
 use Rattle.drills.proofs.EndedLines.{ended_one}
 use Rattle.part_keeper.proofs.FirstLines.{EndsAt, IsPlain, plain_all, through, within_prefix}
+
+pub starts_true : (xs start : List ℕ) → starts_with nat_eq xs start ≡ true → StartsWith xs start
+starts_true xs start is =
+    starts_with_of_append xs start (drop (length start) xs) ((starts_is Decides-eqb xs start _ refl).0 is)
+
+pub starts_false : (xs start : List ℕ) → starts_with nat_eq xs start ≡ false → StartsWith xs start → ⊥
+starts_false xs start not starts =
+    let is = (starts_is Decides-eqb xs start _ refl).1 _ (starts_with_rest xs start starts) in
+    let no : false ≡ true = sym not ∙ is in cc
 
 -- a line that a newline ends is the first of what begins with it
 same_line : (line text rest more : List ℕ) → has_newline line ≡ false → has_newline text ≡ false →

@@ -49,6 +49,9 @@ begun_kept (Some bytes) cut new kept first emptied more same =
         let whole : all ≡ first = cc in
         ap Some (same ∙ whole)
 
+not_err : false ≡ true → ⊥
+not_err same = cc
+
 -- a cut that was made is at a place that a file can have
 pub cut_made : {T E : Type 0} (r : Result T E) (old new : Option (List ℕ)) (len end : ℕ) → len ≡ end →
     OnOk r (Cuts old new len) → (2 ^ 63 ≤ len → IsErr r) → OnOk r (Cuts old new end × (end < 2 ^ 63))
@@ -57,7 +60,7 @@ cut_made (Ok done) old new len end same cut limit =
     (subst (λ n. Cuts old new n) same cut, at (leb_tells (2 ^ 63) end))
   where
     at : ((nat_le (2 ^ 63) end ≡ true) × (2 ^ 63 ≤ end)) ⊎ ((nat_le (2 ^ 63) end ≡ false) × (end < 2 ^ 63)) → end < 2 ^ 63
-    at (inl more) = absurd (limit (let most = more.1 in omega (arith, same, most)))
+    at (inl more) = absurd (not_err (limit (let most = more.1 in omega (arith, same, most))))
     at (inr less) = less.1
 
 -- the whole lines of bytes are the first of them
@@ -69,19 +72,20 @@ one_whole byte rest (line ∷ lines) e = ap (λ l. byte ∷ l) e
 
 all_whole : (bytes : List ℕ) → take (length (with_newlines (ended_in bytes))) bytes ≡ with_newlines (ended_in bytes)
 all_whole [] = refl
-all_whole (byte ∷ bytes) = at (cases_Bool (byte == newline))
+all_whole (byte ∷ bytes) = at (cases_Bool (byte == newline)) (all_whole bytes)
   where
     at : ((byte == newline) ≡ true) ⊎ ((byte == newline) ≡ false) →
+        take (length (with_newlines (ended_in bytes))) bytes ≡ with_newlines (ended_in bytes) →
         take (length (with_newlines (ended_in (byte ∷ bytes)))) (byte ∷ bytes) ≡ with_newlines (ended_in (byte ∷ bytes))
-    at (inl newly) =
+    at (inl newly) rest =
         subst (λ (ls : List (List ℕ)). take (length (with_newlines ls)) (byte ∷ bytes) ≡ with_newlines ls)
         (sym (cond-true (byte == newline) ([] ∷ ended_in bytes) (in_ended byte (ended_in bytes)) newly))
         (ap (λ b. b ∷ take (length (with_newlines (ended_in bytes))) bytes) (eqb-true byte 10 newly)
-        ∙ ap (λ l. newline ∷ l) (all_whole bytes))
-    at (inr other) =
+        ∙ ap (λ l. newline ∷ l) rest)
+    at (inr other) rest =
         subst (λ (ls : List (List ℕ)). take (length (with_newlines ls)) (byte ∷ bytes) ≡ with_newlines ls)
         (sym (cond-false (byte == newline) ([] ∷ ended_in bytes) (in_ended byte (ended_in bytes)) other))
-        (one_whole byte bytes (ended_in bytes) (all_whole bytes))
+        (one_whole byte bytes (ended_in bytes) rest)
 
 sizes_whole : (bytes : List ℕ) → length (with_newlines (ended_in bytes)) ≤ length bytes
 sizes_whole bytes =

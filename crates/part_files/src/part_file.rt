@@ -162,6 +162,7 @@ fn other_head<I: Read>(
     line: &mut Vec<u8>,
     own: &PartHead,
 ) -> Result<String, OpenFault>
+    requires { has_failed (reader_inner reader.old) ≡ false }
     ensures read_failed { (result ≡ Err (OpenFault.Lines PartFault.ReadFailed))
         ↔ (has_failed (reader_inner reader.new) ≡ true) }
     ensures only { IfErr result (λ fault. (fault ≡ OpenFault.Lines PartFault.ReadFailed)
