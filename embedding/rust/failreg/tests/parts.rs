@@ -338,7 +338,7 @@ fn a_part_is_open_once() {
     let (kind, text) = refused(builder(), &path);
     assert_eq!(kind, ErrorKind::PartInUse);
     assert!(
-        text.contains("it is open already, in this process or another: end what"),
+        text.contains("it is open already, in this process or another: end that process"),
         "{text}"
     );
     // One that is closed gives it up.
