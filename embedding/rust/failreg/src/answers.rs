@@ -1,23 +1,23 @@
-//! Requests of HTTP at a registry, whoever received them.
+//! HTTP requests to a registry, whoever received them.
 
 use crate::error::{Error, ErrorKind};
 use crate::peers::Kind;
 use crate::registry::{Registry, State};
 
-/// The reply to a request of HTTP.
+/// The response to an HTTP request.
 #[derive(Clone, Debug, PartialEq, Eq, Hash)]
 pub struct Reply {
-    /// The status: 200 where the request was done.
+    /// The status: 200 if the request was carried out.
     pub status: u16,
-    /// The body, which is a text without a newline; of a refusal it says why.
+    /// The body, a text without a newline; for an error, its reason.
     pub body: Vec<u8>,
 }
 
-/// How the text of a refusal begins that says that the node has accepted as many calls as its cap.
+/// How the error text begins if the node has accepted as many calls as its call limit.
 const CAP_REACHED: &[u8] = b"N1 ";
 
-/// The error that a reply tells which refuses a message since others know more of the node that gave
-/// it than it does, if it does.
+/// Returns the error of a response that rejects a message because others know more about its
+/// receiver than it knows itself.
 pub(crate) fn forgotten_in(status: u16, body: &[u8]) -> Option<Error> {
     let text = std::str::from_utf8(body).ok()?;
     let is_told = text.starts_with("N18 ") || text.starts_with("N19 ");
@@ -25,8 +25,8 @@ pub(crate) fn forgotten_in(status: u16, body: &[u8]) -> Option<Error> {
 }
 
 impl State {
-    // Notes what a message came to, and tells in a status what was heard. Answers whether calls were
-    // waiting for the message.
+    // Notes the result of a message, and adds what was received from peers to a status. Returns
+    // whether calls were waiting for the message.
     fn note_reply(&mut self, kind: Kind, body: &[u8], status: u16, told: &mut Vec<u8>) -> bool {
         match (kind, status) {
             (Kind::Delivery, 200) => return self.note(body, None),
@@ -42,35 +42,36 @@ impl State {
 }
 
 impl Registry {
-    /// Answers a request of HTTP as a served node does: for a program that has a server of its own,
-    /// which hands over what stands below a path of its choice. `path` is that of the request line,
-    /// without a `?` and what follows it:
+    /// Handles an HTTP request as a served node does: for a program with an HTTP server of its own,
+    /// which passes the requests below a path of its choice. `path` is the path of the request
+    /// line, without the `?` and what follows it:
     ///
-    /// | Request | Body | Reply |
+    /// | Request | Body | Response |
     /// |---|---|---|
-    /// | `PUT /fail/<name>` | an action text | the stamp of the setting, as `1.0` |
-    /// | `DELETE /fail/<name>` | | the stamp of the removal |
-    /// | `GET /fail` | | the points that are set, as a text for [`load`](Registry::load) |
-    /// | `POST /load` | a setting text | how many entries were set |
-    /// | `POST /shift/<name>/<term>/<to>/<amount>` | | how many were moved there in all |
-    /// | `POST /grant/<name>/<term>/<amount>` | | how many were granted in all |
-    /// | `PUT /spread/<name>` | an action text | the stamp of the setting, whose rights are dealt out to all nodes ([`set_spread`](Registry::set_spread)) |
-    /// | `POST /spread/<name>` | | how many rights the node keeps of those that it had, which are dealt out ([`spread`](Registry::spread)) |
+    /// | `PUT /fail/<name>` | an action string | the new version, such as `1.0` |
+    /// | `DELETE /fail/<name>` | | the version of the removal |
+    /// | `GET /fail` | | the points that are set, as a FAILPOINTS string for [`load`](Registry::load) |
+    /// | `POST /load` | a FAILPOINTS string | the number of its entries |
+    /// | `POST /shift/<name>/<term>/<to>/<amount>` | | the total transferred there |
+    /// | `POST /grant/<name>/<term>/<amount>` | | the total granted |
+    /// | `PUT /spread/<name>` | an action string | the new version, whose rights are divided evenly among all nodes ([`set_spread`](Registry::set_spread)) |
+    /// | `POST /spread/<name>` | | how many rights the node keeps after its rights are divided evenly ([`spread`](Registry::spread)) |
     /// | `GET /report` | | what the node knows, as JSON |
-    /// | `GET /status` | | the node, its calls and what each node has of each count, and what was heard of each other node, as JSON: an object with the members `node` and `peers`, behind which a program may tell more |
-    /// | `POST /gossip` | a message of another node | `changed` or `same` |
-    /// | `POST /hello` | the number of another node, which asks to be told | `telling`: [`gossip`](crate::gossip) tells it, though there may be no news |
+    /// | `GET /status` | | the node, its calls, what each node has of each count, and the messages from each other node, as a JSON object with the members `node` and `peers`, to which a program may add more |
+    /// | `POST /gossip` | a message from another node | `changed` or `same` |
+    /// | `POST /hello` | the number of another node, which requests a message | `telling`: [`gossip`](crate::gossip) sends one, even without changes |
     ///
-    /// What is done is as by the calls of the registry: threads see new settings, pauses end, and
-    /// where the registry records, an accepted call is recorded before the reply is there. A body has
-    /// at most 67,108,864 bytes, else the reply is 413. Where calls wait for other nodes to be heard
-    /// ([`Builder::hear_first`](crate::Builder::hear_first)), each but a `GET`, `POST /gossip` and `POST /hello` is 503.
+    /// A request has the same effects as the registry's call: threads see new configurations,
+    /// pauses end, and a registry that records has recorded an accepted call before this returns. A
+    /// body has at most 64 MiB, or the response is 413. While calls wait for messages from other
+    /// nodes ([`Builder::hear_first`](crate::Builder::hear_first)), the response is 503 to all but
+    /// `GET`, `POST /gossip` and `POST /hello`.
     ///
     /// # Errors
-    /// [`Closed`](crate::ErrorKind::Closed) or [`Disabled`](crate::ErrorKind::Disabled); where the
-    /// registry records, [`NotRecorded`](crate::ErrorKind::NotRecorded) or, but for a `GET`,
-    /// [`RecordingFailed`](crate::ErrorKind::RecordingFailed). A request that the node refuses is a
-    /// [`Reply`], as 409 and `N6 NotSet`.
+    /// [`Closed`](crate::ErrorKind::Closed) or [`Disabled`](crate::ErrorKind::Disabled); if the
+    /// registry records, [`NotRecorded`](crate::ErrorKind::NotRecorded) or, except for a `GET`,
+    /// [`RecordingFailed`](crate::ErrorKind::RecordingFailed). A request that the node rejects
+    /// returns a [`Reply`], such as 409 and `N6 NotSet`.
     pub fn answer(&self, method: &str, path: &str, body: &[u8]) -> Result<Reply, Error> {
         let kind = Kind::of(method, path, body.len());
         let mut state = self.lock();
@@ -87,7 +88,7 @@ impl Registry {
                 body: told.as_bytes().to_vec(),
             });
         }
-        // What waits to be written is before what the reply says of it.
+        // Waiting lines are written before the response shows their calls.
         let goes_on = self.flush(&mut state);
         if method != "GET" {
             goes_on?;
@@ -105,7 +106,7 @@ impl Registry {
             self.end(&mut state);
         }
         drop(state);
-        // Without the lock: what a closure holds may call the registry when it is dropped.
+        // Without the lock: dropping a closure's captures may call the registry.
         drop(over);
         if let Some(error) = forgotten_in(status, &told) {
             self.meet_forgotten(&error);
@@ -114,8 +115,8 @@ impl Registry {
     }
 }
 
-// Whether an accepted call may have changed which points are set: one that moved or granted rights,
-// or taught nothing, hasn't.
+// Returns whether an accepted call may have changed which points are set: a transfer, a grant or a
+// message without changes hasn't.
 fn changes_settings(path: &str, told: &[u8]) -> bool {
     match path.split('/').nth(1) {
         Some("shift" | "grant") => false,

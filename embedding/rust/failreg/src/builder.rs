@@ -1,4 +1,4 @@
-//! How a registry is made.
+//! Options of a registry.
 
 use crate::error::{Error, ErrorKind};
 use crate::recorder::Recorder;
@@ -10,24 +10,24 @@ use std::net::ToSocketAddrs;
 use std::path::{Path, PathBuf};
 use std::sync::Arc;
 
-/// What is done about a pass that `eval` or `fail_point!` made and that was refused: each time, but
-/// once where a cap is reached or a drill can't be written. The point does nothing then.
+/// What to do when an evaluation by `eval` or `fail_point!` is rejected: each time, but only once
+/// if the call limit is reached or a call can't be recorded. The point does nothing then.
 #[derive(Clone, Default)]
 #[non_exhaustive]
 pub enum OnRefusal {
-    /// A line on standard error.
+    /// Print a line on standard error.
     #[default]
     Print,
     /// Nothing.
     Ignore,
-    /// A panic of the thread that made the pass.
+    /// Panic, in the thread that evaluates.
     Panic,
-    /// A call of this, by the thread that made the pass.
+    /// Call this function, in the thread that evaluates.
     Call(Arc<dyn Fn(&Error) + Send + Sync>),
 }
 
 impl OnRefusal {
-    /// A call of this closure.
+    /// Calls this closure.
     pub fn call(told: impl Fn(&Error) + Send + Sync + 'static) -> OnRefusal {
         OnRefusal::Call(Arc::new(told))
     }
@@ -40,9 +40,9 @@ impl OnRefusal {
             _ => "",
         };
         match self {
-            OnRefusal::Print => eprintln!("failreg: a pass was refused: {error}{rest}"),
+            OnRefusal::Print => eprintln!("failreg: an evaluation was rejected: {error}{rest}"),
             OnRefusal::Ignore => {}
-            OnRefusal::Panic => panic!("failreg: a pass was refused: {error}{rest}"),
+            OnRefusal::Panic => panic!("failreg: an evaluation was rejected: {error}{rest}"),
             OnRefusal::Call(told) => told(error),
         }
     }
@@ -59,23 +59,24 @@ impl fmt::Debug for OnRefusal {
     }
 }
 
-/// What is done where a message of another node shows that others know more of this node than it does
-/// itself: it was started again under its number, and has forgotten what it did.
+/// What to do when a message shows that other nodes know more about this node than it knows itself:
+/// it restarted without its journal, or a second process runs under its number.
 #[derive(Clone, Default)]
 #[non_exhaustive]
 pub enum OnForgotten {
-    /// Its points do nothing from then on, so that no right is spent twice, and a line on standard
-    /// error says so, once.
+    /// Print one line on standard error; the node's points do nothing from then on, so that no
+    /// right is used twice.
     #[default]
     Stop,
-    /// Nothing: such messages are refused, and the points go on.
+    /// Reject such messages, and keep the points working.
     Ignore,
-    /// A call of this, each time, by the thread that was given the message; and the points go on.
+    /// Call this function each time, in the thread that delivers the message; the points keep
+    /// working.
     Call(Arc<dyn Fn(&Error) + Send + Sync>),
 }
 
 impl OnForgotten {
-    /// A call of this closure.
+    /// Calls this closure.
     pub fn call(told: impl Fn(&Error) + Send + Sync + 'static) -> OnForgotten {
         OnForgotten::Call(Arc::new(told))
     }
@@ -91,20 +92,20 @@ impl fmt::Debug for OnForgotten {
     }
 }
 
-/// What becomes of the calls that are accepted: `true` keeps a receipt of each, and a path is that of
-/// the node's part, to which each is written ([`Builder::recording`]).
+/// Where accepted calls are recorded: `true` stores a receipt of each in memory, and a path names
+/// the node's journal ([`Builder::recording`]).
 #[derive(Clone, Debug)]
 pub struct Recording(pub(crate) How);
 
 #[derive(Clone, Debug)]
 pub(crate) enum How {
-    /// The node alone knows of them.
+    /// Nowhere.
     Off,
-    /// Their receipts are kept.
+    /// Receipts in memory.
     Kept,
-    /// They are written to a drill.
+    /// In a recorder's file.
     To(Recorder),
-    /// They are written to the node's part, from which it goes on.
+    /// In the node's journal, from which it resumes.
     Part(PathBuf),
 }
 
@@ -126,7 +127,7 @@ macro_rules! from_paths {
 
 from_paths!(&str, &Path, &PathBuf, String, PathBuf);
 
-/// Makes a [`Registry`]: [`Registry::builder`] begins one.
+/// Options of a [`Registry`], from [`Registry::builder`].
 #[derive(Clone, Debug)]
 #[must_use = "a builder makes nothing before `build`"]
 pub struct Builder {
@@ -164,28 +165,30 @@ impl Default for Builder {
 }
 
 impl Builder {
-    /// The node's number in its cluster, from 0; else 0. It is the node's own: no other node has
-    /// it, and none had it before, in an earlier run of the program either.
+    /// Sets the node's number in its cluster, from 0 [default: 0]. No other node has this number,
+    /// and none had it before, not even in an earlier run of the program, unless the node resumes
+    /// from its journal.
     pub fn node(self, number: u8) -> Builder {
         Builder { number, ..self }
     }
 
-    /// How many nodes the cluster has, 1 to 32; else 1.
+    /// Sets the number of nodes of the cluster, 1 to 32 [default: 1].
     pub fn nodes(self, nodes: u8) -> Builder {
         Builder { nodes, ..self }
     }
 
-    /// The most calls that a node may be made to accept in its life: 2^56 - 1, which at a million a
-    /// second are reached after 2,283 years.
+    /// The largest call limit: 2^56 - 1. At a million calls a second a node reaches it after 2,283
+    /// years.
     pub const MOST_CALLS: u64 = (1 << 56) - 1;
 
-    /// How many calls the node accepts in its life; else [`MOST_CALLS`](Builder::MOST_CALLS).
+    /// Sets how many calls the node accepts in its life [default:
+    /// [`MOST_CALLS`](Builder::MOST_CALLS)].
     pub fn cap(self, cap: u64) -> Builder {
         Builder { cap, ..self }
     }
 
-    /// The seed of the random draws of its passes, which are then the same in every run; else one
-    /// of this run's own.
+    /// Sets the seed of the random draws, so that they are the same in every run [default: a new
+    /// seed in each run].
     pub fn seed(self, seed: [u8; 32]) -> Builder {
         Builder {
             seed: Some(seed),
@@ -193,19 +196,19 @@ impl Builder {
         }
     }
 
-    /// What becomes of the calls that are accepted; else the node alone knows of them.
+    /// Records accepted calls [default: not at all].
     ///
-    /// `true` keeps a receipt of each, for [`write_drill`](crate::write_drill). A program that runs
-    /// for long has [`recording_to`](Builder::recording_to), which keeps none.
+    /// `true` stores a receipt of each call in memory, for [`write_drill`](crate::write_drill). For
+    /// a long run use [`recording_to`](Builder::recording_to), which stores none.
     ///
-    /// A path is that of **the node's part**: a file with a line for each call, from which the node
-    /// goes on when its process starts again, however it ended. The lines that are there are calls of
-    /// this node, made again before `build` returns: it has the points, the rights and the totals that
-    /// it had, and the calls count against its cap; with the same [`seed`](Builder::seed) its draws go
-    /// on too. (A callback is a closure of its process, and isn't there: the point is set to `off`.)
-    /// Each further call is with the system, in one write, before its caller is told or a task is
-    /// carried out. Where there is no file, or an empty one, the part is begun. The file is locked as
-    /// long as the registry is open.
+    /// A path names **the node's journal**: a file with a line for each call, from which the node
+    /// resumes when its process starts again, however it ended. `build` replays the calls of an
+    /// existing journal: the node has its points, rights and totals again, and the calls count
+    /// against its call limit; with the same [`seed`](Builder::seed) its random draws continue,
+    /// too. (A callback belongs to its process and is lost: the point is set to `off`.) Each
+    /// further call is written to the file, in one write, before its result is visible or its
+    /// action is carried out. If the file is missing or empty, the journal starts. The file is
+    /// locked as long as the registry is open.
     ///
     /// ```
     /// use failreg::Registry;
@@ -225,41 +228,42 @@ impl Builder {
     /// # Ok::<(), Box<dyn std::error::Error>>(())
     /// ```
     ///
-    /// A call that can't be written says so ([`NotRecorded`](ErrorKind::NotRecorded)), its task isn't
-    /// carried out, and no call is made from then on
-    /// ([`RecordingFailed`](ErrorKind::RecordingFailed)). `build` refuses a file that isn't this node's
-    /// part ([`BadPart`](ErrorKind::BadPart)), or that is open already
-    /// ([`PartInUse`](ErrorKind::PartInUse)), and leaves it as it was.
+    /// If a call can't be written, it returns [`NotRecorded`](ErrorKind::NotRecorded), its action
+    /// isn't carried out, and the node accepts no further call
+    /// ([`RecordingFailed`](ErrorKind::RecordingFailed)). If the file isn't this node's journal
+    /// ([`BadPart`](ErrorKind::BadPart)) or is open already ([`PartInUse`](ErrorKind::PartInUse)),
+    /// `build` fails and doesn't change it.
     pub fn recording(self, recording: impl Into<Recording>) -> Builder {
         let recording = recording.into();
         Builder { recording, ..self }
     }
 
-    /// Writes each call that is accepted to a recorder's drill at once, and keeps none, in place of
-    /// what [`recording`](Builder::recording) says. All nodes of the cluster take the same recorder.
+    /// Writes each accepted call to a recorder's file at once, and stores none; replaces
+    /// [`recording`](Builder::recording). All nodes of the cluster use the same recorder.
     pub fn recording_to(self, recorder: &Recorder) -> Builder {
         let recording = Recording(How::To(recorder.clone()));
         Builder { recording, ..self }
     }
 
-    /// A text that the parts of one drill share, as the night in which it is played; else an empty
-    /// one. A part of another run isn't taken.
+    /// Sets the run ID, a text that the journals of one run share [default: empty]. A journal of
+    /// another run is rejected.
     pub fn run(self, run: impl Into<String>) -> Builder {
         let run = run.into();
         Builder { run, ..self }
     }
 
-    /// Whether each write of the part is with the disk before its call is told, for machines that lose
-    /// their power; else not: the system has it, whatever becomes of the process.
+    /// Sets whether each line of the journal is on the disk before its result is visible, for
+    /// machines that lose power [default: false: the system has it, whatever happens to the
+    /// process].
     pub fn synced(self, is_synced: bool) -> Builder {
         Builder { is_synced, ..self }
     }
 
-    /// Whether lines of the part may share a write where they are those of passes that took no right:
-    /// the point wasn't set, or came to no term, or to one that has no count. They are written before
-    /// any other line, before a message or the reply to a request leaves, and every 50 ms.
-    /// What is lost of them with the process no other node and no operator was told of: its hits are
-    /// fewer when it goes on, and their draws are drawn again. Else each line is written at once.
+    /// Sets whether journal lines may share a write if their evaluations took no right: the point
+    /// wasn't set, no term fired, or the term has no count [default: false: each line is written at
+    /// once]. They are written before any other line, before a message or an HTTP response leaves,
+    /// and every 50 ms. If the process dies before that, no other node and no client has seen them:
+    /// the resumed node has fewer hits, and repeats their draws.
     pub fn buffered(self, is_buffered: bool) -> Builder {
         Builder {
             is_buffered,
@@ -267,12 +271,13 @@ impl Builder {
         }
     }
 
-    /// What is done about a pass that is refused; else [`OnRefusal::Print`].
+    /// Sets what to do when an evaluation is rejected [default: [`OnRefusal::Print`]].
     pub fn on_refusal(self, on_refusal: OnRefusal) -> Builder {
         Builder { on_refusal, ..self }
     }
 
-    /// What is done where others know more of this node than it does; else [`OnForgotten::Stop`].
+    /// Sets what to do when other nodes know more about this node than it knows itself [default:
+    /// [`OnForgotten::Stop`]].
     pub fn on_forgotten(self, on_forgotten: OnForgotten) -> Builder {
         Builder {
             on_forgotten,
@@ -280,17 +285,19 @@ impl Builder {
         }
     }
 
-    /// Whether the node hears each other node of its cluster once before it takes calls; else it takes
-    /// them at once. Until then its points do nothing, as if none were set, and each call that would
-    /// change it is refused ([`NotHeard`](ErrorKind::NotHeard)) but [`deliver`](Registry::deliver) and
-    /// [`emit`](Registry::emit); reads are answered. It keeps a node that was started again without
-    /// its part from doing anew what it did before: where a message shows that others know more of it,
-    /// [`on_forgotten`](Builder::on_forgotten) says what is done, and its sender counts as not heard. A
-    /// node that keeps its part needs it not, and waits as well.
+    /// Sets whether the node waits for one message from each other node before it accepts calls
+    /// [default: false]. Until then its points do nothing, as if none were set, and calls that
+    /// would change it return [`NotHeard`](ErrorKind::NotHeard), except
+    /// [`deliver`](Registry::deliver) and [`emit`](Registry::emit); reads work. This keeps a node
+    /// that restarted without its journal from repeating what it did: if a message shows that
+    /// others know more about it, [`on_forgotten`](Builder::on_forgotten) applies, and the node
+    /// still waits for that sender. A node with a journal doesn't need this option, but waits as
+    /// well.
     ///
-    /// Nodes tell only news, and may take this one to know all. So [`gossip`](crate::gossip) of such a
-    /// node asks each peer for a message (`POST /hello`). Where the cluster has a number that no process
-    /// has, it waits for good. FAILPOINTS is refused as any call is.
+    /// Nodes send only what has changed, and may assume that this node has everything. So
+    /// [`gossip`](crate::gossip) of a waiting node requests a message from each peer (`POST
+    /// /hello`). If no process runs under one of the cluster's numbers, the node waits forever.
+    /// FAILPOINTS is rejected like any call.
     ///
     /// ```
     /// # if !failreg::has_failpoints() { return Ok(()); }
@@ -312,13 +319,13 @@ impl Builder {
         }
     }
 
-    /// The file of the key that the nodes of the cluster and their clients share: 32 to 1,024 bytes,
-    /// which its owner alone may read. Where the registry is served a request without the key is
-    /// answered 401, before any of its body is read, and other nodes are told with it. With a key
-    /// they may be on other machines. Else there is none, and all are on this machine.
+    /// Sets the file of the key that the nodes of the cluster and their clients share: 32 to 1,024
+    /// bytes, which only its owner may read [default: no key]. A served registry returns status 401
+    /// to a request without the key, before it reads the body, and sends the key to its peers. With
+    /// a key they may be on other machines; without one all are on this machine.
     ///
-    /// A request has it as `Authorization: Bearer` and its bytes in lower-case hex. It keeps nobody
-    /// from reading what is sent: between machines that others listen on, a tunnel does.
+    /// A request presents the key as `Authorization: Bearer` and its bytes in lowercase hex. The
+    /// key encrypts nothing: between machines that others can listen on, use a tunnel.
     pub fn key_file(self, path: impl Into<PathBuf>) -> Builder {
         Builder {
             key_file: Some(path.into()),
@@ -326,13 +333,19 @@ impl Builder {
         }
     }
 
-    /// Makes the registry.
+    /// Opens the registry.
+    ///
+    /// # Errors
+    /// [`BadConfig`](ErrorKind::BadConfig), [`OutOfMemory`](ErrorKind::OutOfMemory),
+    /// [`BadKey`](ErrorKind::BadKey); with a path [`BadPart`](ErrorKind::BadPart) and
+    /// [`PartInUse`](ErrorKind::PartInUse); with a recorder
+    /// [`BadRecorder`](ErrorKind::BadRecorder); or [`Disabled`](ErrorKind::Disabled).
     pub fn build(self) -> Result<Registry, Error> {
         Registry::built(self)
     }
 
-    /// Makes the registry and serves it at this address, as [`serve`](crate::serve) does. Where it
-    /// can't be served there, none is made.
+    /// Opens the registry and serves it at this address, as [`serve`](crate::serve) does. If it
+    /// can't be served there, none is opened.
     ///
     /// # Errors
     /// Those of [`build`](Builder::build) and of [`serve`](crate::serve).
@@ -343,13 +356,16 @@ impl Builder {
         Ok(Served { registry, serving })
     }
 
-    /// Makes it the program's registry, which `fail_point!` passes points of where it names none.
-    /// It is refused where there is one already.
+    /// Opens the registry and makes it the program's, which `fail_point!` uses if it names none.
+    ///
+    /// # Errors
+    /// Those of [`build`](Builder::build), and [`AlreadyOpen`](ErrorKind::AlreadyOpen) if the
+    /// program has one.
     pub fn install(self) -> Result<&'static Registry, Error> {
         crate::program::first(|| self.build())
     }
 
-    /// The seed that is given, or one that differs from run to run.
+    /// Returns the given seed, or one that differs from run to run.
     pub(crate) fn seed_of_this_run(&self) -> [u8; 32] {
         self.seed.unwrap_or_else(|| {
             let mut seed = [0; 32];

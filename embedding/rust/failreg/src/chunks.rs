@@ -1,33 +1,33 @@
-//! Bodies that come in chunks: RFC 9112, section 7.1.
+//! Chunked bodies (RFC 9112, section 7.1).
 
-/// The longest line of a chunk's size, and all that may stand behind the last chunk, in bytes.
+/// The longest line with a chunk's size, and the longest trailer, in bytes.
 const MAX_LINE: usize = 4_096;
 const MAX_BEHIND: usize = 8_192;
 
-/// Why a body isn't taken.
+/// Why a body is rejected.
 #[derive(Debug, PartialEq, Eq)]
 pub enum ChunkFault {
-    /// It is none that comes in chunks.
+    /// It isn't a valid chunked body.
     Bad,
-    /// It is longer than a body may be.
+    /// It is too long.
     TooLong,
 }
 
 /// What the next byte belongs to.
 enum Place {
-    /// The line that says how many bytes a chunk has.
+    /// The line with a chunk's size.
     Size,
-    /// So many bytes of a chunk are still to come.
+    /// A chunk with this many bytes left.
     Chunk(usize),
-    /// The end of the line behind a chunk.
+    /// The line end after a chunk.
     Behind,
-    /// The fields behind the last chunk, of which so many bytes were read.
+    /// The trailer, of which this many bytes were read.
     Fields(usize),
-    /// Nothing of the body.
+    /// Nothing: the body is complete.
     End,
 }
 
-/// A body that comes in chunks, as far as it came.
+/// A chunked body, as far as it has arrived.
 pub struct Chunks {
     body: Vec<u8>,
     most: usize,
@@ -36,7 +36,7 @@ pub struct Chunks {
 }
 
 impl Chunks {
-    /// A body of which nothing came, and which may have so many bytes.
+    /// Returns an empty body that may grow to this many bytes.
     pub fn new(most: usize) -> Chunks {
         Chunks {
             body: Vec::new(),
@@ -46,7 +46,7 @@ impl Chunks {
         }
     }
 
-    /// Takes in what came. Once the body is whole it answers how many bytes stand behind it.
+    /// Adds bytes. Once the body is complete, returns how many of them follow it.
     pub fn take(&mut self, mut bytes: &[u8]) -> Result<Option<usize>, ChunkFault> {
         while let Some((first, rest)) = bytes.split_first() {
             bytes = match self.place {
@@ -72,12 +72,12 @@ impl Chunks {
         })
     }
 
-    /// The body, as far as it came.
+    /// Returns the body, as far as it has arrived.
     pub fn into_body(self) -> Vec<u8> {
         self.body
     }
 
-    // One more byte of a line, which ends by CR LF.
+    // Adds a byte to a line, which ends with CR LF.
     fn take_byte(&mut self, byte: u8) -> Result<(), ChunkFault> {
         self.line.push(byte);
         if byte != b'\n' {
@@ -107,8 +107,8 @@ impl Chunks {
     }
 }
 
-// The size of a chunk, behind which extensions may stand. One of more digits than a number here is
-// none.
+// Returns the size of a chunk, which extensions may follow. A size with more digits than a number
+// has here is invalid.
 fn size_of(line: &[u8]) -> Option<usize> {
     let digits = line.split(|b| *b == b';').next()?.trim_ascii_end();
     let is_number = !digits.is_empty() && digits.iter().all(u8::is_ascii_hexdigit);
@@ -120,7 +120,7 @@ fn size_of(line: &[u8]) -> Option<usize> {
 mod tests {
     use super::*;
 
-    // What the bytes come to in pieces of so many.
+    // The result for these bytes in pieces of this size.
     fn taken(text: &[u8], piece: usize) -> Result<Option<Vec<u8>>, ChunkFault> {
         let mut chunks = Chunks::new(10);
         for part in text.chunks(piece) {

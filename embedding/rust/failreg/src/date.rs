@@ -1,20 +1,20 @@
-//! The date of a reply.
+//! The date of a response.
 
 use std::time::{SystemTime, UNIX_EPOCH};
 
-/// The days of the week, from that on which 1970 began.
+/// The days of the week, from the first of 1970.
 const DAYS: [&str; 7] = ["Thu", "Fri", "Sat", "Sun", "Mon", "Tue", "Wed"];
 
-/// The months, from that behind which a day is put in between.
+/// The months, from March on, so that a leap day comes last.
 const MONTHS: [&str; 12] = [
     "Mar", "Apr", "May", "Jun", "Jul", "Aug", "Sep", "Oct", "Nov", "Dec", "Jan", "Feb",
 ];
 
-/// How many days lie between the first of March in the year 0 and the first of January in 1970.
+/// How many days there are between 1 March of the year 0 and 1 January 1970.
 const DAYS_TO_1970: u64 = 719_468;
 
-/// A time as a `Date` tells it, as `Sun, 06 Nov 1994 08:49:37 GMT`, if its year is one of 1970 to
-/// 9999.
+/// Returns a time in the form of `Date`, such as `Sun, 06 Nov 1994 08:49:37 GMT`, if its year is
+/// 1970 to 9999.
 pub(crate) fn date_of(time: SystemTime) -> Option<String> {
     let seconds = time.duration_since(UNIX_EPOCH).ok()?.as_secs();
     let (days, second) = (seconds / 86_400, seconds % 86_400);
@@ -26,14 +26,14 @@ pub(crate) fn date_of(time: SystemTime) -> Option<String> {
     })
 }
 
-// The year, the month from March on, and the day, so many days behind the first of March in the year
-// 0. Years begin in March here, so that a day that is put in between is their last one.
+// Returns the year, the month from March on, and the day, this many days after 1 March of the year
+// 0. Years start in March here, so that a leap day is their last.
 fn year_month_day(days: u64) -> (u64, u64, u64) {
     let (of_400_years, days) = (days / 146_097, days % 146_097);
     let put_in = days / 1_460 - days / 36_524 + days / 146_096;
     let years = (days - put_in) / 365;
     let days = days - (365 * years + years / 4 - years / 100);
-    // The lengths of the months come again each five of them, which have 153 days.
+    // The lengths of the months repeat every five months, which have 153 days.
     let month = (5 * days + 2) / 153;
     let day = days - (153 * month + 2) / 5 + 1;
     (

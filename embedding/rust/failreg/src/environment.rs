@@ -1,4 +1,4 @@
-//! The program's registry, as its environment asks for it.
+//! The program's registry, configured by environment variables.
 
 use crate::builder::Builder;
 use crate::error::{Error, ErrorKind};
@@ -27,10 +27,10 @@ const SHARE: &str = "FAILREG_SHARE";
 const HEAR_FIRST: &str = "FAILREG_HEAR_FIRST";
 const KEY_FILE: &str = "FAILREG_KEY_FILE";
 
-/// How long to rest between two rounds in which peers are told.
+/// The interval of gossip.
 const EVERY: Duration = Duration::from_millis(100);
 
-/// Makes the program's registry as its environment asks for, in one line of `main`:
+/// Configures the program's registry from environment variables, in one line of `main`:
 ///
 /// ```no_run
 /// fn main() -> Result<(), failreg::Error> {
@@ -40,25 +40,25 @@ const EVERY: Duration = Duration::from_millis(100);
 /// }
 /// ```
 ///
-/// | Variable | Is | Else |
+/// | Variable | Value | Default |
 /// |---|---|---|
-/// | `FAILREG_NODE` | the node's number and how many nodes the cluster has, as `1/3` | `0/1` |
-/// | `FAILREG_CAP` | how many calls the node accepts in its life | 72057594037927935 |
-/// | `FAILPOINTS` | the points to begin with, as `name=actions;name=actions`. A node that goes on from its part has those that it had | none |
-/// | `FAILREG_RECORD` | the path of the node's part, to which each call is written and from which the node goes on ([`Builder::recording`]) | no part |
-/// | `FAILREG_RUN` | a text that the parts of one drill share ([`Builder::run`]) | an empty one |
-/// | `FAILREG_SYNC` | 1 where each write is to be with the disk ([`Builder::synced`]) | 0 |
-/// | `FAILREG_BUFFER` | 1 where lines of passes that took no right may share a write ([`Builder::buffered`]) | 0 |
-/// | `FAILREG_LISTEN` | the address at which the node is served, as [`serve`](crate::serve) does, as `127.0.0.1:7071`, or with a key `10.0.0.2:7071` | it isn't served |
-/// | `FAILREG_PEERS` | where other nodes are served that are told, as [`gossip`] does, every 100 ms: each as a node and a port of 127.0.0.1, `0:7070,2:7072`, or an address with a port, `0:[::1]:7070` or `0@[::1]:7070`, with a key also `0:10.0.0.2:7070` | nobody is told |
-/// | `FAILREG_KEY_FILE` | the file of the key that clients and peers have to have ([`Builder::key_file`]) | there is none, and all are on this machine |
-/// | `FAILREG_SHARE` | 1 where each round in which peers are told begins by moving rights of the node to where passes happen ([`Gossip::share`]) | 0 |
-/// | `FAILREG_HEAR_FIRST` | 1 where the node takes calls once each other node was heard ([`Builder::hear_first`]) | 0 |
-///
+/// | `FAILREG_NODE` | the node's number, `/` and the number of nodes, such as `1/3` | `0/1` |
+/// | `FAILREG_CAP` | the call limit: how many calls the node accepts in its life | 72057594037927935 |
+/// | `FAILPOINTS` | the first configuration, `name=actions;name=actions`. A node that resumes from its journal ignores it | no points |
+/// | `FAILREG_RECORD` | the path of the node's journal, to which each call is written and from which the node resumes ([`Builder::recording`]) | no journal |
+/// | `FAILREG_RUN` | the run ID, a text that the journals of one run share ([`Builder::run`]) | empty |
+/// | `FAILREG_SYNC` | 1: each write of the journal reaches the disk ([`Builder::synced`]) | 0 |
+/// | `FAILREG_BUFFER` | 1: lines of evaluations that took no right may share a write ([`Builder::buffered`]) | 0 |
+/// | `FAILREG_LISTEN` | the address at which the node is served ([`serve`](crate::serve)), such as `127.0.0.1:7071`, or with a key `10.0.0.2:7071` | not served |
+/// | `FAILREG_PEERS` | the other nodes, with which the node gossips every 100 ms ([`gossip`]): each a node and a port of 127.0.0.1, `0:7070,2:7072`, or an address with a port, `0:[::1]:7070` or `0@[::1]:7070`, with a key also `0:10.0.0.2:7070` | no gossip |
+/// | `FAILREG_KEY_FILE` | the file of the key that clients and peers must present ([`Builder::key_file`]) | no key: all on this machine |
+/// | `FAILREG_SHARE` | 1: before each round of gossip, move spare rights to nodes that ran out ([`Gossip::share`]) | 0 |
+/// | `FAILREG_HEAR_FIRST` | 1: reject calls until a message from each other node has arrived ([`Builder::hear_first`]) | 0 |
 /// # Errors
-/// A value that isn't one of these is refused, and so is an address at which nobody can be served.
-/// Where it is refused, or the program has a registry already, none is made, unless it is for want
-/// of a thread ([`NoThread`](ErrorKind::NoThread)).
+/// [`BadVariable`](ErrorKind::BadVariable) for a value that isn't one of these; otherwise those of
+/// [`Builder::build`], [`serve`](crate::serve) and [`gossip`], and
+/// [`AlreadyOpen`](ErrorKind::AlreadyOpen) if the program has a registry. After an error there is
+/// no registry, except after [`NoThread`](ErrorKind::NoThread).
 pub fn from_env() -> Result<Program, Error> {
     let wanted = Wanted::of(&|name| std::env::var_os(name))?;
     let mut listener = None;
@@ -91,43 +91,46 @@ pub fn from_env() -> Result<Program, Error> {
     Ok(program)
 }
 
-/// The program's registry, which is served and tells its peers until this is dropped: let it live as
-/// long as `main`. The part of `FAILREG_RECORD` is written call by call, so that it is there however
+/// The program's registry, which is served and gossips until this is dropped: keep it as long as
+/// `main` runs. The journal of `FAILREG_RECORD` is written call by call, so it is complete however
 /// the program ends.
 #[derive(Debug)]
 #[must_use = "a drop ends the service: keep it as long as the program runs"]
 pub struct Program {
     registry: &'static Registry,
-    /// Whether the end has been told.
+    /// Whether `end` was called.
     is_over: bool,
     serving: Option<Serving>,
     gossip: Option<Gossip>,
 }
 
 impl Program {
-    /// The program's registry.
+    /// Returns the program's registry.
     pub fn registry(&self) -> &'static Registry {
         self.registry
     }
 
-    /// The service, where `FAILREG_LISTEN` asks for one.
+    /// Returns the service, if `FAILREG_LISTEN` is set.
     pub fn serving(&self) -> Option<&Serving> {
         self.serving.as_ref()
     }
 
-    /// The thread that tells the peers, where `FAILREG_PEERS` names others.
+    /// Returns the gossip thread, if `FAILREG_PEERS` names other nodes.
     pub fn gossip(&self) -> Option<&Gossip> {
         self.gossip.as_ref()
     }
 
-    /// Ends the service, and says whether the part, if one is asked for, has each call that was made.
-    /// A drop ends the service as well, and says on standard error where the part lacks one.
+    /// Ends the service and gossip. A drop does so as well, and prints an error on standard error.
+    ///
+    /// # Errors
+    /// The journal lacks a call: [`NotRecorded`](ErrorKind::NotRecorded) or
+    /// [`RecordingFailed`](ErrorKind::RecordingFailed).
     pub fn finish(mut self) -> io::Result<()> {
         self.end()
     }
 
     fn end(&mut self) -> io::Result<()> {
-        // First, so that the part has all that was answered.
+        // First, so that the journal has everything that was returned to a client.
         self.serving = None;
         self.gossip = None;
         match std::mem::replace(&mut self.is_over, true) {
@@ -148,12 +151,12 @@ impl Deref for Program {
 impl Drop for Program {
     fn drop(&mut self) {
         if let Err(error) = self.end() {
-            eprintln!("failreg: the part of {RECORD} lacks a call: {error}");
+            eprintln!("failreg: the journal of {RECORD} lacks a call: {error}");
         }
     }
 }
 
-/// What the variables ask for.
+/// The values of the variables.
 #[derive(Debug, PartialEq)]
 struct Wanted {
     number: u8,
@@ -175,7 +178,7 @@ fn bad(kind: ErrorKind, name: &str, value: &OsStr, fault: &'static str) -> Error
 }
 
 impl Wanted {
-    // The registry, with the points of FAILPOINTS where it begins.
+    // Opens the registry, and loads FAILPOINTS if the node is new.
     fn open(&self) -> Result<Registry, Error> {
         let builder = Registry::builder().node(self.number).nodes(self.nodes);
         let builder = builder.cap(self.cap).run(self.run.as_str());
@@ -228,16 +231,16 @@ impl Wanted {
     }
 }
 
-const NODE_WANTED: &str = "wanted is the number of the node, and behind a `/` how many nodes the \
-                           cluster has, 1 to 32, as 0/3, 1/3 or 2/3";
-const CAP_WANTED: &str = "wanted is a number of calls, 0 to 72057594037927935";
+const NODE_WANTED: &str = "expected NODE/NODES: the node's number, from 0, and the number of nodes, \
+                           1 to 32, for example 0/3, 1/3 or 2/3";
+const CAP_WANTED: &str = "expected a number of calls, 0 to 72057594037927935";
 
 fn cap_of(text: &str) -> Option<u64> {
     text.parse().ok().filter(|cap| *cap <= Builder::MOST_CALLS)
 }
 
-const RUN_WANTED: &str = "wanted is a text of UTF-8";
-const SWITCH_WANTED: &str = "wanted is 0 or 1";
+const RUN_WANTED: &str = "expected UTF-8 text";
+const SWITCH_WANTED: &str = "expected 0 or 1";
 
 fn switch_of(text: &str) -> Option<bool> {
     match text {
@@ -247,11 +250,11 @@ fn switch_of(text: &str) -> Option<bool> {
     }
 }
 
-const LISTEN_WANTED: &str = "wanted is an address and a port, as 127.0.0.1:7071 or [::1]:7071, and \
-                             not a name";
-const PEERS_WANTED: &str = "wanted are other nodes, each its number, a `:` and the port of 127.0.0.1 \
-                            at which it is served, as 0:7070,2:7072, or an address with a port, as \
-                            0:[::1]:7070, and not a name";
+const LISTEN_WANTED: &str = "expected an IP address and a port, for example 127.0.0.1:7071 or \
+                             [::1]:7071; host names are not resolved";
+const PEERS_WANTED: &str = "expected other nodes, each NODE:PORT for 127.0.0.1 or \
+                            NODE:ADDRESS:PORT, for example 0:7070,2:[::1]:7072; host names \
+                            are not resolved";
 
 fn listen_of(text: &str) -> Option<SocketAddr> {
     text.parse().ok()
@@ -261,7 +264,7 @@ fn peers_of(text: &str) -> Option<Vec<Peer>> {
     text.split(',').map(peer_of).collect()
 }
 
-/// The peer of a text as `0:7070` or `0:[::1]:7070`, which are the forms that `failreg serve` takes, or
+/// Returns the peer of a text such as `0:7070` or `0:[::1]:7070`, the forms of `failreg serve`, or
 /// `0@[::1]:7070`.
 fn peer_of(text: &str) -> Option<Peer> {
     let (node, addr) = match text.split_once('@') {
@@ -278,20 +281,20 @@ fn peer_of(text: &str) -> Option<Peer> {
     Some(Peer::new(number_of(node)?, addr))
 }
 
-/// A number of digits alone.
+/// Returns a number that is written in digits only.
 fn number_of<T: FromStr>(text: &str) -> Option<T> {
     let is_number = text.bytes().all(|b| b.is_ascii_digit());
     text.parse().ok().filter(|_| is_number)
 }
 
-/// The node and the number of nodes of a text as `1/3`.
+/// Returns the node and the number of nodes of a text such as `1/3`.
 fn node_of(text: &str) -> Option<(u8, u8)> {
     let (number, nodes) = text.split_once('/')?;
     let (number, nodes) = (number.parse().ok()?, nodes.parse().ok()?);
     (number < nodes && nodes <= 32).then_some((number, nodes))
 }
 
-/// The value of a variable, if it is set.
+/// Returns the value of a variable, if it is set.
 fn read<T>(
     var: &dyn Fn(&str) -> Option<OsString>,
     name: &str,
@@ -360,7 +363,8 @@ mod tests {
         for (name, value, fault) in all.chain(more) {
             let error = wanted(&[(name, value)]).unwrap_err();
             assert_eq!(error.kind(), ErrorKind::BadVariable, "{name}={value}");
-            let text = format!("{name}={value:?}: {fault}: give it such a value, or unset it");
+            let text =
+                format!("{name}={value:?}: {fault}: correct the value, or unset the variable");
             assert_eq!(error.to_string(), text);
         }
     }
@@ -403,7 +407,7 @@ mod tests {
             let all = wanted(&[(LISTEN, text)]).unwrap();
             assert_eq!((all.listen, all.peers), (Some(at(text)), vec![]));
         }
-        // The node itself is left out.
+        // The node itself is skipped.
         let peers = "0:7070,1:7071,2@127.0.0.2:7072,3:127.0.0.2:7074,30:[::1]:7075,31@[::1]:7073";
         let all = wanted(&[(NODE, "1/32"), (PEERS, peers)]).unwrap();
         let others = [
@@ -444,7 +448,7 @@ mod tests {
             Peer::new(2, at("[fe80::1%3]:7072")),
         ];
         assert_eq!(all.peers, others);
-        // Where nobody else reaches it a node may be served without one.
+        // A loopback address needs no key.
         for text in ["10.0.0.1:7071", "0.0.0.0:7071", "[::]:7071"] {
             assert_eq!(wanted(&[(LISTEN, text)]).unwrap().listen, Some(at(text)));
             let error = listen(at(text), false).unwrap_err();
@@ -462,7 +466,8 @@ mod tests {
         for (name, value, fault) in addresses.chain(peers) {
             let error = wanted(&[(name, value), (NODE, "1/3")]).unwrap_err();
             assert_eq!(error.kind(), ErrorKind::BadVariable, "{name}={value}");
-            let text = format!("{name}={value:?}: {fault}: give it such a value, or unset it");
+            let text =
+                format!("{name}={value:?}: {fault}: correct the value, or unset the variable");
             assert_eq!(error.to_string(), text);
         }
         for value in ["3:7070", "0:7070,0:7071"] {

@@ -1,83 +1,85 @@
-//! Why a call is refused.
+//! Why a call failed.
 
 use std::borrow::Cow;
 use std::fmt;
 use std::path::Path;
 
-/// What kind of reason a call is refused for: what a caller would tell apart.
+/// The kinds of errors that a caller may want to distinguish.
 #[derive(Clone, Copy, Debug, PartialEq, Eq, Hash)]
 #[non_exhaustive]
 pub enum ErrorKind {
-    /// The node has accepted as many calls as its cap.
+    /// The node has accepted as many calls as its call limit.
     CapReached,
-    /// The name of a point isn't one.
+    /// The name isn't a valid point name.
     BadName,
-    /// An action text or a setting text is refused.
+    /// An action string or a FAILPOINTS string is wrong.
     BadText,
     /// The node would hold more than 256 names.
     TooManyPoints,
     /// The point isn't set at this node.
     NotSet,
-    /// A term, a node or an amount is none that the call takes.
+    /// The call doesn't take this term, node or amount.
     BadArgument,
-    /// The node has fewer rights to give than were asked for.
+    /// The node has fewer rights than requested.
     TooFewRights,
-    /// A number that only grows would pass its greatest.
+    /// A number that only grows would exceed its maximum.
     NumberFull,
     /// The bytes are no message of this cluster.
     BadMessage,
     /// The message is for another node.
     WrongReceiver,
-    /// The message knows more of this node than it knows itself.
+    /// The message knows more about this node than the node itself: the node lost its state, or a
+    /// second process runs under its number.
     Forgotten,
-    /// With the message a term would have run more often than it may.
+    /// With the message a term would have run more often than its count allows.
     Overspent,
-    /// No such node in such a cluster.
+    /// A cluster has 1 to 32 nodes, numbered from 0.
     BadConfig,
-    /// Memory was refused.
+    /// An allocation failed.
     OutOfMemory,
-    /// Another node has to be heard first ([`Builder::hear_first`](crate::Builder::hear_first)).
+    /// A message from another node has to arrive first
+    /// ([`Builder::hear_first`](crate::Builder::hear_first)).
     NotHeard,
     /// The registry is closed.
     Closed,
     /// The program has a registry already, which is another node.
     AlreadyOpen,
-    /// A variable of the environment has a value that isn't one of its own.
+    /// An environment variable has an invalid value.
     BadVariable,
-    /// Other machines reach the address, and there is no key.
+    /// The address can be reached by other machines, and there is no key.
     NotLocal,
-    /// The file of a key can't be read, has too few or too many bytes, or others may use it.
+    /// The key file can't be read, has too few or too many bytes, or isn't its owner's alone.
     BadKey,
-    /// Nobody can be served at the address.
+    /// The address can't be listened on.
     CantListen,
-    /// A peer isn't another node of the cluster, or is named twice.
+    /// A peer isn't another node of the cluster, or is listed twice.
     BadPeer,
     /// A thread can't be started.
     NoThread,
-    /// The call was made, and couldn't be written to the node's part or to the drill of its
-    /// [`Recorder`](crate::Recorder). No call is made there any more.
+    /// The call was made, but couldn't be written to the node's journal or to the file of its
+    /// [`Recorder`](crate::Recorder). The node accepts no further call.
     NotRecorded,
-    /// An earlier call couldn't be written, or the first lines couldn't.
+    /// An earlier call, or the first lines of the file, couldn't be written.
     RecordingFailed,
-    /// The file isn't the part of this node, has lines that this node didn't write, or can't be
-    /// read. It is as it was.
+    /// The file isn't this node's journal, has lines that this node didn't write, or can't be read.
+    /// It is unchanged.
     BadPart,
-    /// Another process, or another registry of this one, has the part open.
+    /// Another process, or another registry of this process, has the journal open.
     PartInUse,
-    /// The drill of a recorder is of another cluster, or has the node already.
+    /// The recorder belongs to another cluster, or has this node already.
     BadRecorder,
     /// The program was built without the feature `failpoints`.
     Disabled,
-    /// The library answered what this crate doesn't know.
+    /// The library returned a value that this crate doesn't have.
     Mismatch,
 }
 
 impl ErrorKind {
-    /// What to do about it.
+    /// Returns what to do about it.
     fn advice(self) -> &'static str {
         match self {
             ErrorKind::CapReached => {
-                "start a new run with a greater limit: it holds for a node's life"
+                "start a new run with a greater limit: a limit holds for the node's whole life"
             }
             ErrorKind::BadName => "a name is 1 to 128 ASCII letters, digits, `_`, `-`, `.` and `:`",
             ErrorKind::BadText => {
@@ -111,13 +113,13 @@ impl ErrorKind {
             }
             ErrorKind::Closed => "open another",
             ErrorKind::AlreadyOpen => "set it up before anything else uses the program's points",
-            ErrorKind::BadVariable => "give it such a value, or unset it",
+            ErrorKind::BadVariable => "correct the value, or unset the variable",
             ErrorKind::NotLocal => {
-                "give a key file too, or an address of this machine alone, as 127.0.0.1:7070"
+                "give a key file too, or a loopback address such as 127.0.0.1:7070"
             }
             ErrorKind::BadKey => {
-                "make it by `(umask 077; head -c 32 /dev/urandom >FILE)`: it has 32 to 1024 bytes, \
-                 and is its owner's alone"
+                "use a file of 32 to 1024 bytes that only its owner may read (chmod 600); to make one: \
+                 `(umask 077; head -c 32 /dev/urandom >FILE)`"
             }
             ErrorKind::CantListen => "choose a free port, or 0 to let the system pick",
             ErrorKind::BadPeer => "name each other node of the cluster once, by its number",
@@ -130,7 +132,7 @@ impl ErrorKind {
                 "check the path and permissions; use the node's own journal, or a new file for a number \
                  that was never used"
             }
-            ErrorKind::PartInUse => "end that process, and give each node a journal of its own",
+            ErrorKind::PartInUse => "end that process, or give this node a journal of its own",
             ErrorKind::BadRecorder => {
                 "give each cluster a recorder of its own, and each of its nodes once"
             }
@@ -140,14 +142,13 @@ impl ErrorKind {
     }
 }
 
-/// Why a call is refused. Nothing has changed then, unless it is
-/// [`NotRecorded`](ErrorKind::NotRecorded).
+/// Why a call failed. Nothing has changed, except with [`NotRecorded`](ErrorKind::NotRecorded).
 #[derive(Clone, PartialEq, Eq)]
 pub struct Error {
     kind: ErrorKind,
     code: Option<u32>,
     fault: Cow<'static, str>,
-    // What it was met at: a point, a variable, an address, or a part.
+    // Where it occurred: a point, a variable, an address, a key file or a journal.
     at: Option<String>,
 }
 
@@ -197,12 +198,12 @@ impl Error {
         }
     }
 
-    /// Whether it says at what it was met.
+    /// Returns whether it says where it occurred.
     pub(crate) fn has_place(&self) -> bool {
         self.at.is_some()
     }
 
-    /// The same of what a variable names.
+    /// The error with the name of the variable that named the place.
     pub(crate) fn of_variable(self, name: &str) -> Error {
         let at = self
             .at
@@ -220,25 +221,25 @@ impl Error {
         }
     }
 
-    /// What kind of reason it is.
+    /// Returns the kind of error.
     pub fn kind(&self) -> ErrorKind {
         self.kind
     }
 
-    /// The number of the reason in `failreg.h`, where the library gave it: that of the fault, as 11
-    /// of `N11 TooFewRights`, or 30 and above.
+    /// Returns the error's number in `failreg.h`, if the library returned one: 11 for `N11
+    /// TooFewRights`, or 30 and above.
     pub fn code(&self) -> Option<u32> {
         self.code
     }
 
-    /// What was met, without advice: where the node refused, the text of its fault, as
+    /// Returns what failed, without advice: if the node rejected the call, its error text, such as
     /// `N11 TooFewRights have=2`.
     pub fn fault(&self) -> &str {
         &self.fault
     }
 }
 
-/// The kind of a status of `failreg.h`.
+/// Returns the kind of a status of `failreg.h`.
 #[cfg(feature = "failpoints")]
 fn kind_of(status: u32) -> Option<ErrorKind> {
     Some(match status {
@@ -267,7 +268,7 @@ fn kind_of(status: u32) -> Option<ErrorKind> {
         failreg_sys::FAILREG_E_NO_MEMORY => ErrorKind::OutOfMemory,
         failreg_sys::FAILREG_E_CLOSED => ErrorKind::Closed,
         failreg_sys::FAILREG_E_ALREADY_OPEN => ErrorKind::AlreadyOpen,
-        // A status that this crate doesn't know has no kind.
+        // This crate doesn't have the status.
         _ => return None,
     })
 }
@@ -281,7 +282,7 @@ impl fmt::Display for Error {
     }
 }
 
-/// Its text and its kind, since this is what `unwrap`, `expect` and a `main` that fails print.
+/// The text and the kind, because `unwrap`, `expect` and a failing `main` print this.
 impl fmt::Debug for Error {
     fn fmt(&self, f: &mut fmt::Formatter<'_>) -> fmt::Result {
         write!(f, "{self} ({:?})", self.kind)
@@ -290,7 +291,7 @@ impl fmt::Debug for Error {
 
 impl std::error::Error for Error {}
 
-/// The text of an error, which is what the calls of fail-rs answer.
+/// The text of an error, which the calls of fail-rs return.
 impl From<Error> for String {
     fn from(error: Error) -> String {
         error.to_string()

@@ -1,18 +1,18 @@
-//! The calls of fail-rs, over the program's registry. Their refusals are texts, as there.
+//! The calls of fail-rs, for the program's registry. As there, errors are texts.
 
 use crate::program::{made, program};
 use std::sync::{Mutex, MutexGuard};
 
-/// Held by the scenario that runs: there is one at a time. It guards no data.
+/// Held by the running scenario: there is one at a time. It guards no data.
 static SCENARIO: Mutex<()> = Mutex::new(());
 
-/// Whether the crate was built with the feature `failpoints`. Without it `fail_point!` is nothing,
-/// and what would set a point is refused.
+/// Returns whether the crate was built with the feature `failpoints`. Without it `fail_point!` is
+/// nothing, and calls that would set a point fail.
 pub const fn has_failpoints() -> bool {
     cfg!(feature = "failpoints")
 }
 
-/// Sets a point of the program's registry to an action text: [`Registry::set`] has the form.
+/// Sets a point of the program's registry to an action string, in the form of [`Registry::set`].
 ///
 /// [`Registry::set`]: crate::Registry::set
 pub fn cfg<S: Into<String>>(name: S, actions: &str) -> Result<(), String> {
@@ -20,7 +20,7 @@ pub fn cfg<S: Into<String>>(name: S, actions: &str) -> Result<(), String> {
     Ok(())
 }
 
-/// Sets a point of the program's registry to a call of this closure, by the thread that passes it.
+/// Sets a point of the program's registry to a closure, which the evaluating thread calls.
 pub fn cfg_callback<S, F>(name: S, run: F) -> Result<(), String>
 where
     S: Into<String>,
@@ -30,28 +30,28 @@ where
     Ok(())
 }
 
-/// Removes a point of the program's registry. Nothing happens where it isn't set.
+/// Removes a point of the program's registry, if it is set.
 pub fn remove<S: AsRef<str>>(name: S) {
     let name = name.as_ref();
     if let Some(registry) = program().filter(|registry| registry.is_set(name)) {
-        // Where it is refused, the registry is at its end, and no point of it does anything.
+        // If it is rejected, the registry is closed or full, and none of its points does anything.
         _ = registry.remove(name);
     }
 }
 
-/// The points of the program's registry that are set, with their action texts. That of a point with
-/// a callback is `callback`.
+/// Returns the points of the program's registry that are set, with their action strings; `callback`
+/// for a point with a callback.
 pub fn list() -> Vec<(String, String)> {
     program().map_or_else(Vec::new, |registry| registry.points())
 }
 
-/// Passes a point of the program's registry, as `fail_point!` does.
+/// Evaluates a point of the program's registry, like `fail_point!`.
 #[doc(hidden)]
 pub fn eval<R, F: FnOnce(Option<String>) -> R>(name: &str, value: F) -> Option<R> {
     program()?.eval(name).map(value)
 }
 
-/// A time in which the points of the program's registry belong to one test: another
+/// A period in which the points of the program's registry belong to one test: another
 /// [`setup`](FailScenario::setup) waits until this one is dropped.
 ///
 /// ```
@@ -76,12 +76,12 @@ pub struct FailScenario<'a> {
 }
 
 impl FailScenario<'_> {
-    /// Waits for other scenarios, removes all points, and sets those of FAILPOINTS. Without the
-    /// feature `failpoints` nothing is set.
+    /// Waits for other scenarios, removes all points, and loads FAILPOINTS. Without the feature
+    /// `failpoints` nothing is set.
     ///
     /// # Panics
     ///
-    /// Where FAILPOINTS is refused, or the registry can't be made.
+    /// If FAILPOINTS is wrong, or the registry can't be opened.
     pub fn setup() -> Self {
         let alone = SCENARIO
             .lock()
@@ -99,8 +99,8 @@ impl FailScenario<'_> {
         scenario
     }
 
-    /// Removes all points, lets threads that pause go on, and lets the next scenario begin. So does
-    /// a drop.
+    /// Removes all points, lets paused threads continue, and lets the next scenario start. A drop
+    /// does the same.
     pub fn teardown(self) {
         drop(self);
     }
@@ -109,7 +109,8 @@ impl FailScenario<'_> {
 impl Drop for FailScenario<'_> {
     fn drop(&mut self) {
         if let Some(registry) = program() {
-            // Where it is refused, the registry is at its end, and no point of it does anything.
+            // If it is rejected, the registry is closed or full, and none of its points does
+            // anything.
             _ = registry.clear();
         }
     }
@@ -133,14 +134,14 @@ impl Drop for FailScenario<'_> {
 pub struct FailGuard(String);
 
 impl FailGuard {
-    /// Sets a point to an action text: [`cfg()`] has more.
+    /// Sets a point to an action string, like [`cfg()`].
     pub fn new<S: Into<String>>(name: S, actions: &str) -> Result<FailGuard, String> {
         let name = name.into();
         cfg(&name, actions)?;
         Ok(FailGuard(name))
     }
 
-    /// Sets a point to a call of this closure: [`cfg_callback`] has more.
+    /// Sets a point to a closure, like [`cfg_callback`].
     pub fn with_callback<S, F>(name: S, run: F) -> Result<FailGuard, String>
     where
         S: Into<String>,

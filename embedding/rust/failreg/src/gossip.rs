@@ -1,4 +1,4 @@
-//! A registry that tells its peers what they haven't heard, in a thread of its own.
+//! A registry that gossips with its peers in a thread of its own.
 
 use crate::answers::forgotten_in;
 use crate::error::{Error, ErrorKind};
@@ -14,29 +14,29 @@ use std::sync::{Arc, Mutex, MutexGuard};
 use std::thread::{self, JoinHandle};
 use std::time::{Duration, Instant, SystemTime};
 
-/// How long a peer has for a message and its answer.
+/// How long a peer may take for a message and its response.
 const POST_TIME: Duration = Duration::from_secs(2);
 
-/// The longest rest while a peer is gone, unless that between two rounds is longer.
+/// The longest back-off for an unreachable peer, unless the interval of rounds is longer.
 const LONGEST_REST: Duration = Duration::from_secs(5);
 
-/// How often it is said at most that a peer has forgotten what it did.
+/// The shortest time between two reports that a peer lost its state.
 const SAID_EVERY: Duration = Duration::from_secs(60);
 
-/// The shortest rest between two rounds.
+/// The shortest interval of rounds.
 const SHORTEST_REST: Duration = Duration::from_millis(1);
 
-/// Where another node of the cluster is served.
+/// Another node of the cluster, and the address at which it is served.
 #[derive(Clone, Copy, Debug, PartialEq, Eq, Hash)]
 pub struct Peer {
-    /// Its number.
+    /// The node's number.
     pub node: u8,
-    /// Its address, which is one of this machine, or there is a key.
+    /// The node's address: a loopback address, unless there is a key.
     pub addr: SocketAddr,
 }
 
 impl Peer {
-    /// The node of this number, served at this address.
+    /// Returns the peer with this number and address.
     pub fn new(node: u8, addr: impl Into<SocketAddr>) -> Peer {
         Peer {
             node,
@@ -45,50 +45,52 @@ impl Peer {
     }
 }
 
-/// Why a peer wasn't told.
+/// A message that failed.
 #[derive(Clone, Debug, PartialEq, Eq)]
 pub struct Failure {
-    /// When.
+    /// When it failed.
     pub at: SystemTime,
-    /// What was met: the error of its socket, its answer, or why there is no message for it.
+    /// Why: the error of its socket, the response of the peer, or why there is no message for it.
     pub what: String,
 }
 
-/// What is known of telling a peer.
+/// What was sent to a peer.
 #[derive(Clone, Debug, PartialEq, Eq)]
 #[non_exhaustive]
 pub struct PeerNews {
     /// The peer.
     pub peer: Peer,
-    /// When it last took in a message, if it ever did.
+    /// When it last accepted a message, if it ever did.
     pub told: Option<SystemTime>,
-    /// How many messages it took in.
+    /// How many messages it accepted.
     pub messages: u64,
-    /// Why it wasn't told the last time that this failed. It stays when it is told later.
+    /// The last failure. It stays after later successes.
     pub failure: Option<Failure>,
-    /// How often it wasn't told.
+    /// How many messages failed.
     pub failures: u64,
 }
 
-/// What a node has to tell a peer.
+/// The versions that decide whether a peer needs a message.
 #[derive(Clone, Copy, Debug, PartialEq, Eq, Default)]
 pub(crate) struct News {
-    /// The version of the node itself.
+    /// The node's own version.
     version: u64,
-    /// The version of the peer that the node has all of, which the peer waits to hear.
+    /// The version of the peer that the node has everything of, and that the peer wants
+    /// acknowledged.
     known: u64,
-    /// Whether the peer asked to be told.
+    /// Whether the peer requested a message.
     is_asked: bool,
 }
 
 impl Registry {
-    // Whether calls wait for a node to be heard.
+    // Returns whether calls wait for a message from this node.
     fn awaits(&self, node: u8) -> bool {
         let state = &*self.lock();
         state.waits && !state.peers.has_heard(node)
     }
 
-    // What there is to tell a node that was last told this, if there is anything, or it asked.
+    // Returns the versions to send to a node that last got `told`, if it lacks something or
+    // requested a message.
     fn news_for(&self, to: u8, told: News) -> Result<Option<News>, Error> {
         let state = &mut *self.lock();
         let news = News {
@@ -101,17 +103,17 @@ impl Registry {
     }
 }
 
-/// When to tell a peer again.
+/// When to send a peer the next message.
 struct Pace {
     every: Duration,
-    /// What it took in last.
+    /// The versions that it last accepted.
     told: News,
     has_failed: bool,
     rest: Duration,
     next: Instant,
-    /// When it was said last that the peer has forgotten what it did.
+    /// When the loss of the peer's state was last reported.
     said: Option<Instant>,
-    /// The rest behind the last time that the peer was asked for a message, and when it is asked again.
+    /// The back-off after the last request for a message, and the time of the next.
     asking_rest: Duration,
     next_asking: Instant,
 }
@@ -130,8 +132,8 @@ impl Pace {
         }
     }
 
-    // News are told at once, unless the last message failed. What the peer took in and didn't yet
-    // answer, as one that tells nobody, is told again after a rest.
+    // Changes are sent at once, unless the last message failed. A message that the peer accepted
+    // but didn't acknowledge, for example because it doesn't gossip, is repeated after a back-off.
     fn is_due(&self, news: News) -> bool {
         let is_fresh = news.version > self.told.version || news.known != self.told.known;
         ((is_fresh || news.is_asked) && !self.has_failed) || Instant::now() >= self.next
@@ -156,7 +158,7 @@ impl Pace {
         self.rest_longer();
     }
 
-    // Says that the peer has forgotten what it did, unless that was said a moment ago.
+    // Reports that the peer lost its state, unless that was reported a moment ago.
     fn say_forgotten(&mut self, node: u8, fault: &str) {
         if self.said.is_some_and(|said| said.elapsed() < SAID_EVERY) {
             return;
@@ -169,7 +171,7 @@ impl Pace {
         );
     }
 
-    // The rest doubles each time.
+    // The back-off doubles each time.
     fn rest_longer(&mut self) {
         self.rest = self.longer(self.rest);
         self.next = Instant::now() + self.rest;
@@ -179,7 +181,7 @@ impl Pace {
         (rest * 2).min(LONGEST_REST.max(self.every))
     }
 
-    // Whether to ask the peer for a message now, and else later.
+    // Returns whether to request a message from the peer now rather than later.
     fn is_asking(&mut self) -> bool {
         let now = Instant::now();
         let is_due = now >= self.next_asking;
@@ -191,8 +193,8 @@ impl Pace {
     }
 }
 
-/// What is known of telling the peers, in their order. The lock guards it, and is held while it is
-/// read or written alone.
+/// What was sent to each peer, in their order. The lock guards it, and is held only while it is
+/// read or written.
 type Known = Mutex<Vec<PeerNews>>;
 
 fn shown(known: &Known) -> MutexGuard<'_, Vec<PeerNews>> {
@@ -201,12 +203,12 @@ fn shown(known: &Known) -> MutexGuard<'_, Vec<PeerNews>> {
         .unwrap_or_else(|poisoned| poisoned.into_inner())
 }
 
-/// What came of a look at a peer.
+/// The result of one peer in one round.
 enum Outcome {
     NoNews,
     Told,
     Failed(String),
-    /// The peer answers that others know more of it than it does.
+    /// The peer responded that others know more about it than it knows itself.
     Forgotten(String),
 }
 
@@ -240,8 +242,8 @@ impl PeerNews {
     }
 }
 
-// Tells a peer. The message is made once it is reached, since each is an entry of the trace. An
-// error is the node's own.
+// Sends a peer a message, which is made once the peer is reached, because each is an accepted call.
+// An error is the node's own.
 fn post(registry: &Registry, peer: Peer) -> Result<Outcome, Error> {
     let failed = |error: std::io::Error| Ok(Outcome::Failed(error.to_string()));
     let end = Instant::now() + POST_TIME;
@@ -249,7 +251,7 @@ fn post(registry: &Registry, peer: Peer) -> Result<Outcome, Error> {
         Ok(stream) => stream,
         Err(error) => return failed(error),
     };
-    // Who asks from now on asks for another one.
+    // A request from now on is for the next message.
     registry.lock().peers.has_told(peer.node);
     let message = registry.emit(peer.node)?;
     let place = (peer.addr, "/gossip");
@@ -263,8 +265,8 @@ fn post(registry: &Registry, peer: Peer) -> Result<Outcome, Error> {
     }
 }
 
-// Asks a peer for a message that calls wait for. It tells only news, and may take this node to know all.
-// Where it isn't reached, or doesn't know what is asked, it is asked again.
+// Requests a message that calls wait for: peers send only changes, and may assume that this node
+// has everything. If the peer isn't reached, or doesn't know the request, it is repeated.
 fn ask(registry: &Registry, peer: Peer, pace: &mut Pace) {
     if !registry.awaits(peer.node) || !pace.is_asking() {
         return;
@@ -278,8 +280,8 @@ fn ask(registry: &Registry, peer: Peer, pace: &mut Pace) {
     }
 }
 
-// Tells a peer, if there is news for it and its time has come. An error is the node's own, and ends
-// all rounds where no message is made any more.
+// Sends a peer a message, if it lacks something and its back-off is over. An error is the node's
+// own, and ends gossip if the node can't make messages any more.
 fn tell(registry: &Registry, peer: Peer, pace: &mut Pace) -> Result<Outcome, Error> {
     let Some(news) = registry.news_for(peer.node, pace.told)? else {
         return Ok(Outcome::NoNews);
@@ -298,7 +300,7 @@ fn tell(registry: &Registry, peer: Peer, pace: &mut Pace) -> Result<Outcome, Err
     outcome
 }
 
-// Whether a node that answers so makes no message any more.
+// Returns whether a node with this error makes no message any more.
 fn is_end(error: &Error) -> bool {
     matches!(
         error.kind(),
@@ -309,7 +311,7 @@ fn is_end(error: &Error) -> bool {
     )
 }
 
-// Looks at each peer, and answers whether to go on.
+// Visits each peer. Returns whether to continue.
 fn round(registry: &Registry, paces: &mut [Pace], known: &Known) -> bool {
     for (index, pace) in paces.iter_mut().enumerate() {
         let peer = shown(known)[index].peer;
@@ -325,12 +327,12 @@ fn round(registry: &Registry, paces: &mut [Pace], known: &Known) -> bool {
     true
 }
 
-// Moves rights to where passes happen, if that is asked for, and answers whether to go on.
+// Moves spare rights, if sharing is on. Returns whether to continue.
 fn share(registry: &Registry, is_sharing: &AtomicBool) -> bool {
     !is_sharing.load(Ordering::Relaxed) || !registry.share().as_ref().is_err_and(is_end)
 }
 
-// The rounds, until the end is told, or no message is made any more.
+// Runs rounds until gossip is stopped, or the node makes no message any more.
 fn rounds(
     registry: &Registry,
     every: Duration,
@@ -339,7 +341,7 @@ fn rounds(
     end: &Receiver<()>,
 ) {
     let mut paces: Vec<Pace> = shown(known).iter().map(|_| Pace::new(every)).collect();
-    // What a round shares goes out with its messages.
+    // A round's transfers are part of its messages.
     while share(registry, is_sharing) && round(registry, &mut paces, known) {
         if end.recv_timeout(every) != Err(RecvTimeoutError::Timeout) {
             return;
@@ -347,24 +349,24 @@ fn rounds(
     }
 }
 
-/// A registry that tells its peers. It ends when this is dropped.
-#[must_use = "nobody is told any more when it is dropped: keep it as long as the node lives"]
+/// The gossip thread of a registry. A drop ends it.
+#[must_use = "a drop ends gossip: keep it as long as the node lives"]
 pub struct Gossip {
     known: Arc<Known>,
-    /// Whether each round begins by moving rights. It orders nothing else.
+    /// Whether each round first moves spare rights. It orders no memory access.
     is_sharing: Arc<AtomicBool>,
-    /// The thread rests by waiting for the sender, and ends once that is dropped.
+    /// The thread sleeps by waiting for the sender, and ends when it is dropped.
     thread: Option<(Sender<()>, JoinHandle<()>)>,
 }
 
 impl Gossip {
-    /// What is known of telling each peer: when it was last told, and what its last failure was.
+    /// Returns for each peer when it was last sent a message, and its last failure.
     pub fn peers(&self) -> Vec<PeerNews> {
         shown(&self.known).clone()
     }
 
-    /// Has each round begin by moving rights of the node to where passes happen
-    /// ([`Registry::share`]), from now on. Else they stay where an operator or the program put them.
+    /// From now on, moves spare rights to nodes that ran out before each round
+    /// ([`Registry::share`]). Otherwise rights stay where an operator or the program put them.
     ///
     /// ```
     /// # if failreg::has_failpoints() {
@@ -382,15 +384,14 @@ impl Gossip {
         self
     }
 
-    /// Ends it, as a drop does. A message that is under way has 2 seconds at most, and is waited
-    /// for.
+    /// Ends gossip, as a drop does. It waits for a message on its way, for 2 seconds at most.
     pub fn stop(mut self) {
         self.end();
     }
 
     fn end(&mut self) {
         if let Some((end, thread)) = self.thread.take() {
-            // The thread hears that nobody can tell it anything any more.
+            // Without a sender the thread ends.
             drop(end);
             drop(thread.join());
         }
@@ -411,8 +412,8 @@ impl fmt::Debug for Gossip {
     }
 }
 
-// The peers but the node itself, each another node of the cluster. Without a key they are on this
-// machine.
+// Returns the peers except the node itself, each another node of the cluster. Without a key they
+// are on this machine.
 pub(crate) fn others(
     peers: &[Peer],
     own: u8,
@@ -426,11 +427,11 @@ pub(crate) fn others(
             return Err(not_local(addr).at_address(addr));
         }
         if *node >= nodes {
-            let fault = format!("there is no node {node} in a cluster of {nodes}");
+            let fault = format!("a cluster of {nodes} has no node {node}");
             return Err(Error::new(ErrorKind::BadPeer, fault).at_address(addr));
         }
         if others.iter().any(|other| other.node == *node) {
-            let fault = format!("node {node} is named twice");
+            let fault = format!("node {node} is listed twice");
             return Err(Error::new(ErrorKind::BadPeer, fault).at_address(addr));
         }
         if *node != own {
@@ -440,7 +441,7 @@ pub(crate) fn others(
     Ok(others)
 }
 
-/// Tells each peer what it hasn't heard, in a thread of its own, until the answer is dropped:
+/// Gossips with each peer, in a thread of its own, until the result is dropped:
 ///
 /// ```
 /// # if failreg::has_failpoints() {
@@ -456,16 +457,16 @@ pub(crate) fn others(
 /// # Ok::<(), failreg::Error>(())
 /// ```
 ///
-/// In a round each peer is looked at, and told where there is news for it: the node knows more than
-/// the peer said it has, or has learnt of the peer since it told it last. Then the thread rests for
-/// `every`, of a millisecond at least. Where there is no news no message is made, and none is made
-/// for a peer that can't be reached. A peer that isn't told, or doesn't answer with status 200, is
-/// left alone for a while, which doubles up to 5 seconds, and so is one that took in a message and
-/// tells nothing of it. A peer that hangs holds a round up for 2 seconds. It ends with the node: when
-/// that is closed, or has reached its cap. A peer that asks for it, as one that [hears others
-/// first](crate::Builder::hear_first), is told without news.
+/// Each round visits each peer and sends it a message if it lacks something: the peer hasn't
+/// acknowledged the node's version, or the node has learned about the peer since its last message.
+/// Then the thread sleeps for `every`, at least a millisecond. An idle cluster sends nothing, and
+/// no message is made for an unreachable peer. A peer that is unreachable, returns a status other
+/// than 200, or accepts a message without acknowledging it, is retried with a back-off that doubles
+/// up to 5 seconds. A peer that hangs delays a round by 2 seconds. Gossip ends with the node: when
+/// it is closed, or has reached its call limit. A peer that requests a message, because it [waits
+/// for one](crate::Builder::hear_first), gets one without changes, too.
 ///
-/// A peer that is the node itself is left out, so that all processes may be given the same peers.
+/// A peer that is the node itself is skipped, so all processes can have the same list.
 ///
 /// # Errors
 /// [`NotLocal`](ErrorKind::NotLocal), [`BadPeer`](ErrorKind::BadPeer),
@@ -519,7 +520,7 @@ mod tests {
         assert_eq!(rests, [200, 400, 800, 1600, 3200, 5000, 5000, 5000]);
         pace.has_told(news(2, 0));
         assert_eq!(pace.rest.as_millis(), 200);
-        // News are told at once then; the same is told again after a rest.
+        // Changes are sent at once then; a repetition waits for the back-off.
         assert!(pace.is_due(news(3, 0)) && pace.is_due(news(2, 1)));
         assert!(!pace.is_due(news(2, 0)));
         let asked = News {
@@ -551,12 +552,12 @@ mod tests {
             (
                 vec![at(2, "127.0.0.1:1")],
                 ErrorKind::BadPeer,
-                "address 127.0.0.1:1: there is no node 2 in a cluster of 2: ",
+                "address 127.0.0.1:1: a cluster of 2 has no node 2: ",
             ),
             (
                 vec![one, one],
                 ErrorKind::BadPeer,
-                "address [::1]:7071: node 1 is named twice: ",
+                "address [::1]:7071: node 1 is listed twice: ",
             ),
         ] {
             let error = others(&peers, 0, 2, false).unwrap_err();

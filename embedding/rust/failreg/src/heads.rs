@@ -1,4 +1,4 @@
-//! Heads of requests: what they say, and who is let in by them.
+//! Heads of requests: their fields, and the checks of access.
 
 use crate::key::Key;
 use crate::tags::{is_in, tag_of};
@@ -12,12 +12,12 @@ const MAX_FIELDS: usize = 100;
 /// The longest body, in bytes: that of the longest message.
 pub(crate) const MAX_BODY: usize = 67_108_864;
 
-/// Why nothing is asked of the node.
+/// Why a request doesn't reach the node.
 #[derive(Debug, PartialEq, Eq)]
 pub enum Fault {
-    /// This is the reply.
+    /// It gets this response.
     Reply(u16, &'static str),
-    /// The client is gone, or is too slow.
+    /// The client is gone or too slow.
     Gone,
 }
 
@@ -54,10 +54,10 @@ const MANY_FIELDS: Fault = Fault::Reply(431, "too many fields: send at most 100"
 const NO_EXPECTATION: Fault = Fault::Reply(417, "unknown Expect: send 100-continue, or none");
 pub(crate) const LONG_HEAD: Fault = Fault::Reply(431, "too long a head: send at most 8192 bytes");
 
-/// How a body comes.
+/// How a body is sent.
 #[derive(Clone, Copy, Debug, PartialEq, Eq)]
 pub enum Length {
-    /// With so many bytes.
+    /// With this many bytes.
     Told(u64),
     /// In chunks.
     Chunks,
@@ -73,12 +73,12 @@ pub struct Head {
     pub is_expecting: bool,
     /// Each `If-None-Match`: tags of bodies that the client has.
     none_match: Vec<Vec<u8>>,
-    /// Whether it is one of HTTP/1.0.
+    /// Whether the request is HTTP/1.0.
     is_old: bool,
 }
 
 impl Head {
-    /// Whether its body may have more bytes than these.
+    /// Returns whether the body may be longer than this.
     pub fn may_exceed(&self, bytes: usize) -> bool {
         match self.length {
             Length::Told(told) => told > bytes as u64,
@@ -86,7 +86,7 @@ impl Head {
         }
     }
 
-    /// The reply where the body is longer than the longest, which is that of any such body.
+    /// Returns the response to a body that is longer than any request's may be.
     pub fn too_long(&self) -> Fault {
         match methods_at(&self.path) {
             None => Fault::Reply(404, "not found"),
@@ -97,18 +97,18 @@ impl Head {
         }
     }
 
-    /// The tag of what is answered with this status, if it has one: the node's status is asked for
-    /// again and again, and is mostly what it was.
+    /// Returns the tag of a response with this status, if it has one: clients poll the node's
+    /// status, which mostly stays the same.
     pub fn tag_of(&self, status: u16, body: &[u8]) -> Option<String> {
         (self.path == "/status" && status == 200).then(|| tag_of(body))
     }
 
-    /// Whether the client has the body with this tag.
+    /// Returns whether the client has the body with this tag.
     pub fn has(&self, tag: &str) -> bool {
         self.none_match.iter().any(|list| is_in(tag, list))
     }
 
-    /// The version of the reply.
+    /// Returns the HTTP version of the response.
     pub fn version(&self) -> &'static str {
         match self.is_old {
             true => "HTTP/1.0",
@@ -117,7 +117,7 @@ impl Head {
     }
 }
 
-/// The methods of a path, if there is one.
+/// Returns the methods of a path, if the path exists.
 pub(crate) fn methods_at(path: &str) -> Option<&'static str> {
     if path == "/" {
         return Some("GET");
@@ -142,11 +142,11 @@ fn is_token(bytes: &[u8]) -> bool {
     !bytes.is_empty() && bytes.iter().all(is_part)
 }
 
-// The method, the path and the version of a line as `PUT /fail/a HTTP/1.1`.
+// Returns the method, the path and the version of a line such as `PUT /fail/a HTTP/1.1`.
 fn request_line(line: &[u8]) -> Option<(&str, &str, &str)> {
     let (method, rest) = std::str::from_utf8(line).ok()?.split_once(' ')?;
     let (target, version) = rest.split_once(' ')?;
-    // A proxy is asked to connect to a name, which is no path here.
+    // CONNECT takes a name, which is no path here.
     let is_path = target.starts_with('/') || method == "CONNECT";
     let is_target = is_path && target.bytes().all(|b| b.is_ascii_graphic());
     let is_version = version == "HTTP/1.1" || version == "HTTP/1.0";
@@ -162,15 +162,15 @@ fn field(line: &[u8]) -> Option<(String, &[u8])> {
         .then(|| (String::from_utf8_lossy(name).to_ascii_lowercase(), value))
 }
 
-// A length of 64 bits.
+// Returns a 64-bit length.
 fn length_of(value: &[u8]) -> Option<u64> {
     let is_number = !value.is_empty() && value.iter().all(u8::is_ascii_digit);
     let digits = std::str::from_utf8(value).ok().filter(|_| is_number)?;
     digits.parse().ok()
 }
 
-// Whether a `Host` is this machine, with or without a port: a page that has a name of its own for
-// this machine's address sends that name.
+// Returns whether a `Host` is this machine, with or without a port. A page with a domain name of
+// its own for this machine's address sends that name.
 fn is_this_machine(host: &[u8]) -> bool {
     let Ok(host) = std::str::from_utf8(host) else {
         return false;
@@ -198,27 +198,27 @@ fn is_served(origin: &[u8], addr: SocketAddr) -> bool {
     origin == format!("http://{addr}").as_bytes()
 }
 
-// Whether an `Origin` is a page of this host, as a browser or a proxy with TLS names it.
+// Returns whether an `Origin` is a page of this host, as a browser or a TLS proxy names it.
 fn is_of_host(origin: &[u8], host: &[u8]) -> bool {
     [&b"http://"[..], b"https://"]
         .iter()
         .any(|scheme| origin.strip_prefix(*scheme) == Some(host))
 }
 
-/// What the fields of a head say.
+/// The fields of a head.
 #[derive(Default)]
 struct Fields {
     length: Option<u64>,
-    /// The codings of the body, in the order in which they were done.
+    /// The codings of the body, in the order in which they were applied.
     codings: Vec<String>,
     host: Option<Vec<u8>>,
     /// Each `Origin` that isn't the address at which the node is served.
     origins: Vec<Vec<u8>>,
     is_expecting: bool,
     none_match: Vec<Vec<u8>>,
-    /// Whether a key says who may ask, and no name of this machine.
+    /// Whether a key decides about access, rather than the machine's name.
     is_keyed: bool,
-    /// How often it says who asks, and whether it is always one who has the key.
+    /// How many credentials the request has, and whether all have the key.
     credentials: usize,
     has_key: bool,
 }
@@ -232,13 +232,13 @@ impl Fields {
         }
     }
 
-    // Takes what says who asks.
+    // Adds credentials.
     fn take_credentials(&mut self, value: &[u8], key: Option<&Key>) {
         self.credentials += 1;
         self.has_key &= key.is_some_and(|key| key.is_in(value));
     }
 
-    // Who doesn't have the key, and say so once, isn't let in where there is one.
+    // Rejects a request without exactly one credential with the key, if there is a key.
     fn let_in(&self) -> Result<(), Fault> {
         match self.is_keyed && !(self.has_key && self.credentials == 1) {
             true => Err(NO_KEY),
@@ -260,7 +260,8 @@ impl Fields {
                 self.codings.extend(codings);
             }
             "origin" if is_served(value, addr) => {}
-            // Without a key there is no other one; with it that of the Host is, which may come yet.
+            // Without a key no other origin is allowed; with one, that of the Host, which may still
+            // follow.
             "origin" if self.is_keyed => self.origins.push(value.into()),
             "origin" => return Err(FOREIGN_ORIGIN),
             "host" if !self.is_keyed && !is_this_machine(value) => return Err(FOREIGN_HOST),
@@ -273,7 +274,7 @@ impl Fields {
         Ok(())
     }
 
-    // Who asks by a page of another host than the one that is asked isn't let in.
+    // Rejects a request from a page of another host than the requested one.
     fn judge_origins(&self) -> Result<(), Fault> {
         let host = self.host.as_deref();
         let is_own = |origin: &Vec<u8>| host.is_some_and(|host| is_of_host(origin, host));
@@ -283,8 +284,8 @@ impl Fields {
         }
     }
 
-    // How the body comes. What is coded otherwise than in chunks isn't understood; and without them
-    // at last nobody knows where it ends.
+    // Returns how the body is sent. Only the chunked coding is supported, and it must be the last:
+    // otherwise the end of the body is unknown.
     fn length(&self) -> Result<Length, Fault> {
         match (&self.codings[..], self.length) {
             ([], told) => Ok(Length::Told(told.unwrap_or(0))),
@@ -296,8 +297,8 @@ impl Fields {
     }
 }
 
-// The fields of a head, of which each stands in a line. Who isn't let in learns nothing else of them.
-// The page is for all, since it asks for the key.
+// Reads the fields of a head, one per line. A client without access gets no other error. The page
+// is for all, because it asks for the key.
 fn fields_of<'a>(
     lines: impl Iterator<Item = &'a [u8]>,
     addr: SocketAddr,
@@ -326,7 +327,7 @@ fn fields_of<'a>(
     Ok(fields)
 }
 
-/// A whole head, each line of it with its CR LF, at a node that is served at this address, to who has
+/// Reads a whole head, whose lines end with CR LF, for a node that is served at this address, with
 /// this key, if there is one.
 pub(crate) fn head_of(bytes: &[u8], addr: SocketAddr, key: Option<&Key>) -> Result<Head, Fault> {
     let mut lines = bytes
@@ -355,13 +356,14 @@ pub(crate) fn head_of(bytes: &[u8], addr: SocketAddr, key: Option<&Key>) -> Resu
     }
 }
 
-/// What bytes are no head of, though its end didn't come: another protocol, say.
+/// Returns the error of bytes that can't be the start of a head, for example those of another
+/// protocol.
 pub(crate) fn is_no_head(bytes: &[u8]) -> bool {
     bytes.first().is_some_and(|first| !is_token(&[*first]))
 }
 
-/// Where the head ends that these bytes begin with, if all of it is there. None of its newlines
-/// stands without its CR. What lies before `from` was looked at.
+/// Returns the end of the head at the start of these bytes, if it is complete. Each of its newlines
+/// follows a CR. The bytes before `from` were checked before.
 pub(crate) fn end_of_head(bytes: &[u8], from: usize) -> Result<Option<usize>, Fault> {
     for (at, byte) in bytes.iter().enumerate().skip(from) {
         if *byte == b'\n' {
@@ -382,7 +384,7 @@ mod tests {
 
     const ADDR: SocketAddr = SocketAddr::new(std::net::IpAddr::V4(Ipv4Addr::LOCALHOST), 7070);
 
-    // A head of HTTP/1.1 with these fields behind its Host.
+    // A head of HTTP/1.1 with these fields after its Host.
     fn read_line(line: &str, fields: &str) -> Result<Head, u16> {
         read(&format!("{line}\r\nHost: localhost:7070\r\n{fields}"))
     }
@@ -429,14 +431,14 @@ mod tests {
                 }
             }
         }
-        // The page, which asks for the key, comes without it, and no other path or method of it.
+        // The page, which asks for the key, needs none; other paths and methods do.
         assert_eq!(read("GET /", "Host: a\r\n"), Ok("/".into()));
         let origin = "Host: a\r\nOrigin: http://example.org\r\n";
         assert_eq!(read("GET /", origin), Err(403));
         for line in ["GET //", "POST /", "HEAD /"] {
             assert_eq!(read(line, "Host: a\r\n"), Err(401), "{line}");
         }
-        // Who has it is judged as ever, but for the name that was asked for.
+        // With the key the same rules hold, except for the requested name.
         for (origin, may) in [
             ("http://a:7070", true),
             ("https://a:7070", true),
@@ -457,7 +459,7 @@ mod tests {
         let origins = format!("Host: a\r\nOrigin: http://a\r\nOrigin: http://b\r\n{has}");
         assert_eq!(read("POST /load", &origins), Err(403));
         assert_eq!(read("GET /fail", &has), Err(400), "no Host");
-        // Where there is no key nobody is asked for one.
+        // Without a key nobody needs one.
         assert!(read_line("GET /fail HTTP/1.1", &near).is_ok());
     }
 
@@ -476,7 +478,7 @@ mod tests {
             is_old: false,
         };
         assert_eq!(head, Ok(wanted));
-        // HTTP/1.0 knows no Host, and no length is none.
+        // HTTP/1.0 has no Host, and no length means no body.
         let old = read("GET / HTTP/1.0\r\n").map(|head| (head.length, head.is_old));
         assert_eq!(old, Ok((Length::Told(0), true)));
         let longest = format!("Content-Length: {MAX_BODY}\r\n");

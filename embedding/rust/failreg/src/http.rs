@@ -1,5 +1,5 @@
-//! As much of HTTP/1.1 as a served node takes: one request a connection, with a body whose length
-//! its head tells, or that comes in chunks.
+//! The subset of HTTP/1.1 that a served node supports: one request per connection, with a
+//! Content-Length or a chunked body.
 
 use crate::chunks::{ChunkFault, Chunks};
 use crate::date::date_of;
@@ -13,27 +13,27 @@ use std::io::{self, ErrorKind, Read, Write};
 use std::net::{Shutdown, SocketAddr, TcpStream};
 use std::time::{Duration, Instant, SystemTime};
 
-/// What is read of a body at once; as much room is made before any of it came.
+/// How many bytes of a body are read at once; as many are reserved before any arrive.
 const PIECE: usize = 65_536;
 
 const HEAD_TIME: Duration = Duration::from_secs(2);
 const WHOLE_TIME: Duration = Duration::from_secs(10);
 
-/// How long a client may go on sending what nobody reads, so that it comes to read the reply.
+/// How long a client may continue sending ignored bytes, so that it gets to reading the response.
 const DRAIN_TIME: Duration = Duration::from_secs(1);
 
-/// A connection with a client, who has a while for its request and the reply.
+/// A connection with a client, which has a time limit for its request and the response.
 pub struct Connection<'a> {
     stream: &'a TcpStream,
     begun: Instant,
-    /// What was read behind the head.
+    /// The bytes that were read after the head.
     rest: Vec<u8>,
-    /// Whether more was sent than the request.
+    /// Whether the client sent more than the request.
     has_more: bool,
 }
 
 impl<'a> Connection<'a> {
-    /// A connection whose time begins now.
+    /// Returns a connection whose time starts now.
     pub fn new(stream: &'a TcpStream) -> Connection<'a> {
         Connection {
             stream,
@@ -43,7 +43,7 @@ impl<'a> Connection<'a> {
         }
     }
 
-    /// When the time for all of it is over.
+    /// Returns when its time is over.
     pub fn end(&self) -> Instant {
         self.begun + WHOLE_TIME
     }
@@ -55,7 +55,7 @@ impl<'a> Connection<'a> {
         }
     }
 
-    /// Reads the head of the request, which has the key where there is one.
+    /// Reads the head of the request, which must have the key, if there is one.
     pub fn read_head(&mut self, addr: SocketAddr, key: Option<&Key>) -> Result<Head, Fault> {
         let (mut bytes, mut piece, mut looked) = (Vec::new(), [0; 4_096], 0);
         let end = loop {
@@ -75,8 +75,8 @@ impl<'a> Connection<'a> {
         head_of(&bytes[..end - 2], addr, key)
     }
 
-    /// Reads the body that a head tells of. Memory grows as the body comes. What stands behind it is
-    /// no request of this connection.
+    /// Reads the body of a head. Memory grows as the body arrives. The bytes after it are no
+    /// request of this connection.
     pub fn read_body(&mut self, head: &Head) -> Result<Vec<u8>, Fault> {
         match head.length {
             Length::Told(told) => self.read_told(told as usize, head.is_expecting),
@@ -96,7 +96,7 @@ impl<'a> Connection<'a> {
         self.go_on(is_expecting && body.len() < length)?;
         let mut piece = Vec::new();
         while body.len() < length {
-            // One byte more, so that it is seen where more comes than was told.
+            // One byte more, to detect a body that is longer than its length.
             let left = length - body.len() + 1;
             piece.resize(left.min(PIECE), 0);
             let read = self.read_by(&mut piece, self.end())?;
@@ -128,21 +128,21 @@ impl<'a> Connection<'a> {
         }
     }
 
-    /// Writes the reply, the last of the connection, to a request of this head, if there was one.
-    /// `HEAD` is answered without the body, and so is a client that has it.
+    /// Writes the response, the connection's last, to a request with this head, if there was one. A
+    /// response to `HEAD`, or to a client that has the body, has no body.
     pub fn write(&mut self, head: Option<&Head>, status: u16, body: &[u8]) -> io::Result<()> {
         let reply = reply_to(head, status, body, SystemTime::now());
         write_by(self.stream, &reply, self.end())?;
         self.stream.shutdown(Shutdown::Write)
     }
 
-    /// Whether the client sends more than its request.
+    /// Returns whether the client sends more than its request.
     pub fn has_more(&self) -> bool {
         self.has_more
     }
 
-    /// Takes what a client goes on sending whose request isn't read to its end, for a while: bytes
-    /// that nobody took would end the connection before the client has the reply.
+    /// Reads the rest of an incomplete request for a while: unread bytes would end the connection
+    /// before the client has the response.
     pub fn drain(&mut self) {
         let end = self.end().min(Instant::now() + DRAIN_TIME);
         let mut piece = vec![0; PIECE];
@@ -150,7 +150,7 @@ impl<'a> Connection<'a> {
     }
 }
 
-// The reply of this time to a request of this head, if there was one.
+// Returns the response at this time to a request with this head, if there was one.
 fn reply_to(head: Option<&Head>, status: u16, body: &[u8], now: SystemTime) -> Vec<u8> {
     let version = head.map_or("HTTP/1.1", Head::version);
     let tag = head.and_then(|head| head.tag_of(status, body));
@@ -169,16 +169,16 @@ fn reply_to(head: Option<&Head>, status: u16, body: &[u8], now: SystemTime) -> V
     reply
 }
 
-// The head of a reply with these fields, and those that each has: when it is made, and that it is the
-// last one of its connection.
+// Returns the head of a response with these fields and the common ones: its date, and the end of
+// the connection.
 fn reply_head(version: &str, status: u16, fields: &str, now: SystemTime) -> String {
     let reason = reason(status);
     let date = date_of(now).map_or(String::new(), |date| format!("date: {date}\r\n"));
     format!("{version} {status} {reason}\r\n{fields}{date}connection: close\r\n")
 }
 
-// The fields that say what a body is, so that no browser guesses, where another method was sent,
-// which the path has, and where the key is missing, how it is sent.
+// Returns the fields of a body's type, so that no browser guesses; of the allowed methods, if
+// another was sent; and of how to send the key, if it is missing.
 fn labels_of(path: &str, status: u16) -> String {
     let content = match path {
         "/report" | "/status" if status == 200 => "application/json",
@@ -211,7 +211,7 @@ fn left_until(deadline: Instant) -> io::Result<Duration> {
     }
 }
 
-// Reads once, by the deadline.
+// Reads once, before the deadline.
 pub(crate) fn read_by(
     mut stream: &TcpStream,
     into: &mut [u8],
@@ -226,7 +226,7 @@ pub(crate) fn read_by(
     }
 }
 
-// Writes all of it, by the deadline.
+// Writes everything before the deadline.
 pub(crate) fn write_by(
     mut stream: &TcpStream,
     mut bytes: &[u8],
@@ -269,7 +269,7 @@ mod tests {
     use std::net::Ipv4Addr;
     use std::time::UNIX_EPOCH;
 
-    // What is answered to a request of HTTP/1.1 with these fields behind its Host, as 1970 begins.
+    // The response to an HTTP/1.1 request with these fields after its Host, at the start of 1970.
     fn replied(line: &str, fields: &str, status: u16, body: &str) -> String {
         let text = format!("{line} HTTP/1.1\r\nHost: localhost\r\n{fields}");
         let addr = (Ipv4Addr::LOCALHOST, 7070).into();

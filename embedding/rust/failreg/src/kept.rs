@@ -1,4 +1,4 @@
-//! What becomes of the calls that a node accepts: each as the line of its entry.
+//! Where accepted calls are recorded, each as the line of its entry.
 
 use crate::builder::{Builder, How};
 use crate::error::{Error, ErrorKind};
@@ -14,13 +14,13 @@ use std::collections::HashMap;
 enum Place {
     Nowhere,
     Here(Receipts),
-    /// With the number of the node.
+    /// With the node's number.
     There(Recorder, u8),
     Part(Part),
 }
 
-/// The line of a pass of a point, without its end: a pass that comes to the same has the same, and its
-/// own draws behind it.
+/// The line of an evaluation of a point, without its draws. Evaluations with the same result have
+/// the same line, each with its own draws.
 struct PassLine {
     came_to: (Stamp, Option<u8>),
     start: String,
@@ -28,12 +28,13 @@ struct PassLine {
     may_wait: bool,
 }
 
-/// What stands before the draws of a pass in its line, and behind them.
+/// The text before and after the draws in an evaluation's line.
 const BEFORE_DRAWS: &str = "\"words\":[";
 const BEHIND_DRAWS: &str = "]}\n";
 
 impl PassLine {
-    // Of a line with its newline. How many draws a pass takes is the setting's.
+    // Splits a line with its newline. The configuration determines how many draws an evaluation
+    // takes.
     fn of(came_to: (Stamp, Option<u8>), line: &str, may_wait: bool) -> Option<PassLine> {
         let end = line.rfind(BEFORE_DRAWS)? + BEFORE_DRAWS.len();
         Some(PassLine {
@@ -44,7 +45,7 @@ impl PassLine {
         })
     }
 
-    // The line of the newest pass, which came to the same.
+    // Returns the line of the newest evaluation, which had the same result.
     fn line(&self, node: &mut Node) -> String {
         let mut line = self.start.clone();
         if self.has_draws {
@@ -55,19 +56,21 @@ impl PassLine {
     }
 }
 
-/// The record of a node.
+/// The recording of a node.
 pub struct Kept {
     place: Place,
-    /// Of each point that is set, one for each term and one for none, since the settings changed last.
+    /// For each point that is set, one line per term and one for none, since the last change of
+    /// configurations.
     lines: HashMap<String, Vec<PassLine>>,
-    /// Which terms of the points that are set have a count, a bit for each, where that is known.
+    /// Which terms of the set points have a count, a bit for each, if known.
     counted: Option<HashMap<String, u16>>,
-    /// Whether a call couldn't be kept.
+    /// Whether a call couldn't be recorded.
     has_failed: bool,
 }
 
 impl Kept {
-    /// The record of a node that was just opened. Where there is a part of it, it goes on from that.
+    /// Starts the recording of a node that was just opened. If the node has a journal, the node
+    /// resumes from it.
     pub fn of(made: &Builder, node: &mut Node) -> Result<Kept, Error> {
         let place = match &made.recording.0 {
             How::Off => Place::Nowhere,
@@ -77,7 +80,7 @@ impl Kept {
                 Place::There(recorder.clone(), made.number)
             }
             How::Part(path) if has_failpoints() => Place::Part(Part::open(path, made, node)?),
-            // No call is ever accepted.
+            // The node never accepts a call.
             How::Part(_) => Place::Nowhere,
         };
         Ok(Kept {
@@ -88,7 +91,7 @@ impl Kept {
         })
     }
 
-    /// The receipts, where they are kept.
+    /// Returns the receipts, if they are stored.
     pub fn receipts(&self) -> Option<&Receipts> {
         match &self.place {
             Place::Here(receipts) => Some(receipts),
@@ -96,7 +99,7 @@ impl Kept {
         }
     }
 
-    /// Whether calls are still made: until one couldn't be kept.
+    /// Returns the error of the first call that couldn't be recorded.
     pub fn goes_on(&self) -> Result<(), Error> {
         match &self.place {
             Place::Nowhere | Place::Here(_) => {}
@@ -104,13 +107,13 @@ impl Kept {
             Place::Part(part) => part.goes_on()?,
         }
         if self.has_failed {
-            let fault = "a call could not be recorded before";
+            let fault = "an earlier call could not be recorded";
             return Err(Error::new(ErrorKind::RecordingFailed, fault));
         }
         Ok(())
     }
 
-    /// Takes in which points are set, as a list of settings, where that is known.
+    /// Notes which points are set, from a FAILPOINTS string, if known.
     pub fn learn(&mut self, list: Option<&str>) {
         self.lines.clear();
         self.counted = match &self.place {
@@ -119,7 +122,7 @@ impl Kept {
         };
     }
 
-    /// Keeps the newest call of the node, which is no pass.
+    /// Records the node's newest call, which is no evaluation.
     pub fn keep(&mut self, node: &mut Node) -> Result<(), Error> {
         if matches!(self.place, Place::Nowhere) {
             return Ok(());
@@ -129,7 +132,7 @@ impl Kept {
         kept
     }
 
-    /// Keeps the calls of the node from this number on, of which none is a pass.
+    /// Records the node's calls from this number on, none of which is an evaluation.
     pub fn keep_since(&mut self, node: &mut Node, first: u64) -> Result<(), Error> {
         if matches!(self.place, Place::Nowhere) {
             return Ok(());
@@ -149,7 +152,7 @@ impl Kept {
         Ok(())
     }
 
-    /// Keeps the newest call of the node, which is a pass of a point.
+    /// Records the node's newest call, an evaluation of this point.
     pub fn keep_pass(&mut self, node: &mut Node, name: &str, pass: &Passed) -> Result<(), Error> {
         if matches!(self.place, Place::Nowhere) {
             return Ok(());
@@ -173,20 +176,20 @@ impl Kept {
         let term = came_to.and_then(|(_, term)| term);
         let may_wait = term.is_none_or(|term| !self.may_be_counted(name, term));
         self.place.put(&line, may_wait)?;
-        // Of a point that isn't set nothing is remembered: there may be any number of names.
+        // Nothing is stored for a point that isn't set: there may be any number of names.
         if let Some(known) = came_to.and_then(|came_to| PassLine::of(came_to, &line, may_wait)) {
             self.lines.entry(name.to_string()).or_default().push(known);
         }
         Ok(())
     }
 
-    // Whether a term of a point may have a count: it has none where that is known.
+    // Returns whether a term of a point may have a count: not if it is known to have none.
     fn may_be_counted(&self, name: &str, term: u8) -> bool {
         let counts = self.counted.as_ref().and_then(|points| points.get(name));
         counts.is_none_or(|counts| counts >> term & 1 == 1)
     }
 
-    /// Writes the lines that wait, and says whether each call is kept so far.
+    /// Writes the lines that wait. Errors: the recording lacks a call.
     pub fn flush(&mut self) -> Result<(), Error> {
         if let Place::Part(part) = &self.place {
             part.flush();
@@ -194,7 +197,7 @@ impl Kept {
         self.goes_on()
     }
 
-    /// Gives up the part, which another process may open then.
+    /// Closes the journal, which another process may open then.
     pub fn close(&mut self) {
         if matches!(self.place, Place::Part(_)) {
             self.place = Place::Nowhere;
@@ -203,7 +206,8 @@ impl Kept {
 }
 
 impl Place {
-    // Puts a line, with its newline, there. One that may wait is written with the next that may not.
+    // Writes a line, with its newline. A line that may wait is written with the next one that may
+    // not.
     fn put(&mut self, line: &str, may_wait: bool) -> Result<(), Error> {
         match self {
             Place::Nowhere => Ok(()),
@@ -217,7 +221,7 @@ impl Place {
     }
 }
 
-// The line of the newest call, with its newline.
+// Returns the line of the newest call, with its newline.
 fn newest(node: &mut Node) -> Result<String, Error> {
     let line = node
         .last_entry()
@@ -225,17 +229,17 @@ fn newest(node: &mut Node) -> Result<String, Error> {
     Ok(line + "\n")
 }
 
-/// The error of a call that was made and couldn't be kept.
+/// The error of a call that was made but couldn't be recorded.
 pub fn not_recorded(why: impl std::fmt::Display) -> Error {
-    let fault = format!("the call was made and could not be recorded ({why})");
+    let fault = format!("the call was made, but could not be recorded ({why})");
     Error::new(ErrorKind::NotRecorded, fault)
 }
 
-/// How many terms a setting has at most.
+/// The most terms of an action string.
 const MOST_TERMS: usize = 16;
 
-// Which terms have a count in a list `name=actions;name=actions`. A count stands before the
-// argument, and nothing but the ends of terms is `->`.
+// Returns which terms have a count in a list `name=actions;name=actions`. A count comes before the
+// argument, and only ends of terms are `->`.
 fn counts_in(list: &str) -> HashMap<String, u16> {
     let is_counted = |term: &str| {
         term.split('(')

@@ -8,22 +8,21 @@ use std::io::{self, Read};
 use std::path::Path;
 use std::sync::Arc;
 
-/// How many bytes a key has: as many as nobody guesses, and no more than the head of a request has
-/// room for.
+/// The length of a key in bytes: too long to guess, and short enough for the head of a request.
 const LEAST: usize = 32;
 const MOST: usize = 1_024;
 
-/// How a request says that it has a key.
+/// The scheme of the `Authorization` field.
 const SCHEME: &[u8] = b"Bearer ";
 
-/// A key, as requests have it: the bytes of its file in lower-case hex. It is shown nowhere.
+/// A key, as requests contain it: the bytes of its file in lowercase hex. It is never printed.
 #[derive(Clone)]
 pub(crate) struct Key {
     hex: Arc<str>,
 }
 
 impl Key {
-    /// The key of a file that nobody but its owner may read.
+    /// Reads the key of a file that only its owner may read.
     pub(crate) fn read(path: &Path) -> Result<Key, Error> {
         let fault = |fault: String| Error::new(ErrorKind::BadKey, fault).at_key(path);
         let file = File::open(path).map_err(|error| fault(error.to_string()))?;
@@ -33,7 +32,7 @@ impl Key {
             )));
         }
         let mut bytes = Vec::new();
-        // One byte more, so that it is seen where there is more.
+        // One byte more, to detect a file that is too long.
         let most = MOST as u64 + 1;
         let read = file.take(most).read_to_end(&mut bytes);
         read.map_err(|error| fault(error.to_string()))?;
@@ -43,7 +42,7 @@ impl Key {
         })
     }
 
-    /// The key of these bytes, if one has so many.
+    /// Returns the key of these bytes, if their number is allowed.
     pub(crate) fn of(bytes: &[u8]) -> Option<Key> {
         if !(LEAST..=MOST).contains(&bytes.len()) {
             return None;
@@ -55,8 +54,8 @@ impl Key {
         Some(Key { hex: hex.into() })
     }
 
-    /// Whether the value of an `Authorization` has this key. It takes as long for any value of the
-    /// same length.
+    /// Returns whether the value of an `Authorization` has this key, in the same time for all
+    /// values of one length.
     pub(crate) fn is_in(&self, value: &[u8]) -> bool {
         let Some((scheme, told)) = value.split_at_checked(SCHEME.len()) else {
             return false;
@@ -64,7 +63,7 @@ impl Key {
         scheme.eq_ignore_ascii_case(SCHEME) && is_same(told, self.hex.as_bytes())
     }
 
-    /// The field of a request that has the key.
+    /// Returns the field of a request that presents the key.
     pub(crate) fn field(&self) -> String {
         format!("authorization: Bearer {}\r\n", self.hex)
     }
@@ -76,13 +75,13 @@ impl fmt::Debug for Key {
     }
 }
 
-// Whether two texts are the same. It looks at all bytes, wherever the first other one stands.
+// Returns whether two texts are the same, after comparing all bytes wherever they first differ.
 fn is_same(told: &[u8], wanted: &[u8]) -> bool {
     let differ = |all: u8, (a, b): (&u8, &u8)| black_box(all | (a ^ b));
     told.len() == wanted.len() && told.iter().zip(wanted).fold(0, differ) == 0
 }
 
-// The mode of a file, where it lets others than its owner use it.
+// Returns the mode of a file that others than its owner may use.
 #[cfg(unix)]
 fn mode_for_others(file: &File) -> io::Result<Option<u32>> {
     use std::os::unix::fs::PermissionsExt;
@@ -90,7 +89,7 @@ fn mode_for_others(file: &File) -> io::Result<Option<u32>> {
     Ok((mode & 0o077 != 0).then_some(mode))
 }
 
-// Another system tells no mode.
+// Other systems have no mode.
 #[cfg(not(unix))]
 fn mode_for_others(_: &File) -> io::Result<Option<u32>> {
     Ok(None)

@@ -1,7 +1,7 @@
-//! Failpoints whose counts hold for a cluster of nodes, with the calls of fail-rs: a wrapper of a
-//! proved registry.
+//! Failpoints with cluster-wide counts and the interface of fail-rs: a safe wrapper of a proved
+//! registry.
 //!
-//! A program that names points, and sets them in a test:
+//! A failpoint, and a test that sets it:
 //!
 //! ```
 //! use failreg::{FailScenario, fail_point};
@@ -20,17 +20,17 @@
 //! scenario.teardown();
 //! ```
 //!
-//! These are points of the program's own registry, which is node 0 of 1 where nothing else is said.
-//! [`from_env`] and [`setup`] make it one node of a cluster; then a count as of `3*panic->off` is
-//! that of all nodes together. A program may have more [`Registry`]s: `fail_point!(in node,
-//! "read_block")` passes a point of the one that is named.
+//! These are points of the program's own registry, node 0 of a cluster of 1 by default. With
+//! [`from_env`] or [`setup`] it is one node of a larger cluster; a count, such as the 3 of
+//! `3*panic->off`, then holds for all nodes together. A program may have more [`Registry`]s:
+//! `fail_point!(in node, "read_block")` evaluates a point of `node`.
 //!
-//! **Failpoints are off unless the feature `failpoints` is asked for.** Without it every
-//! [`fail_point!`] is nothing, no library is linked, and what would set a point is refused
-//! ([`ErrorKind::Disabled`]).
+//! **Failpoints are off unless the feature `failpoints` is on.** Without it every [`fail_point!`]
+//! is nothing, no library is linked, and calls that would set a point return
+//! [`ErrorKind::Disabled`].
 //!
-//! What is proved is the node behind the calls of C. This crate is not: its declarations of those
-//! calls, its locks, and how it carries tasks out.
+//! The node behind the C calls is proved. This crate isn't: neither its declarations of those
+//! calls, nor its locks, nor how it carries out actions.
 
 mod answers;
 mod builder;
@@ -80,11 +80,11 @@ pub use registry::{Registry, write_drill};
 pub use serving::{Served, Serving, serve};
 pub use told::{Passed, Stamp, Task};
 
-/// Passes a point, if it is set, and carries its task out. `fail_point!("name")` panics where the
-/// task is `return`; `fail_point!("name", |argument| value)` leaves the function with the value
-/// then, and `fail_point!("name", condition, |argument| value)` passes the point only under the
-/// condition. With `in registry,` in front it is a point of that registry, else one of the
-/// program's.
+/// Evaluates a point, if it is set, and carries out its action. If the action is `return`,
+/// `fail_point!("name")` panics, and `fail_point!("name", |argument| value)` returns the closure's
+/// value from the function. `fail_point!("name", condition, |argument| value)` evaluates the point
+/// only if the condition holds. With `in registry,` in front the point is one of that registry,
+/// else one of the program's.
 #[macro_export]
 #[cfg(feature = "failpoints")]
 macro_rules! fail_point {
@@ -125,7 +125,7 @@ macro_rules! fail_point {
 #[macro_export]
 #[cfg(not(feature = "failpoints"))]
 macro_rules! fail_point {
-    // The registry is named and not asked for, so that a variable which has it is used.
+    // Mentions the registry without using it, so that its variable doesn't count as unused.
     (in $registry:expr, $($ignored:tt)*) => {{
         if false {
             _ = &$registry;
@@ -134,12 +134,12 @@ macro_rules! fail_point {
     ($($ignored:tt)*) => {{}};
 }
 
-// The code of a page, which is tried with the other examples.
+// Tests the code of a page with the other examples.
 #[cfg(all(doctest, feature = "failpoints"))]
 #[doc = include_str!("../../../../docs/how-to/custom-transport.md")]
 struct CustomTransport;
 
-// A point whose name is spelled out keeps beside it what was found of it.
+// A point with a literal name caches what was found about it.
 #[doc(hidden)]
 #[macro_export]
 macro_rules! eval_point {
@@ -152,7 +152,7 @@ macro_rules! eval_point {
     };
 }
 
-// What a closure of a `fail_point!` makes of the argument: its type is known here.
+// Calls the closure of a `fail_point!`; fixes the type of its argument.
 #[doc(hidden)]
 pub fn value_of<T>(value: impl FnOnce(Option<String>) -> T, argument: Option<String>) -> T {
     value(argument)

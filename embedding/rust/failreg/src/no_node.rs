@@ -1,5 +1,5 @@
-//! The node of a program that is built without the feature `failpoints`, and links no library: no
-//! point is ever set at it. What would change it is refused, and what reads tells of nothing.
+//! The node of a program that is built without the feature `failpoints`, which links no library: no
+//! point is ever set. Calls that would change it fail, and reads return nothing.
 
 use crate::error::{Error, ErrorKind};
 use crate::told::{Passed, Stamp};

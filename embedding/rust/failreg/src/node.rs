@@ -1,5 +1,5 @@
-//! A node of the proved library, given to one call at a time by `&mut`. All `unsafe` calls are
-//! here: each passes references and slices of its own, which live as long as the call.
+//! A node of the proved library, used in one call at a time by `&mut`. All `unsafe` calls are here:
+//! each passes references and slices of its own, which live as long as the call.
 
 use crate::error::Error;
 use crate::told::{Passed, Stamp, Task};
@@ -7,10 +7,10 @@ use failreg_sys as sys;
 use std::borrow::Cow;
 use std::time::Duration;
 
-/// More bytes than the text of any refusal has.
+/// More bytes than any error text has.
 const LONGEST_FAULT: usize = 256;
 
-/// As many bytes as what is fetched seldom has more of, so that it is mostly fetched at once.
+/// Enough bytes for most results, so that one call fetches them.
 const MOST_FETCHED: usize = 256;
 
 pub struct Node {
@@ -23,9 +23,9 @@ impl Drop for Node {
     }
 }
 
-// The library knows a value that this crate doesn't: they weren't built from one tree.
+// The library returned a value that this crate doesn't have: they weren't built from one tree.
 fn unknown(what: &str, number: u8) -> Error {
-    let fault = format!("the library answered {what} {number}, which this crate doesn't know");
+    let fault = format!("the library returned {what} {number}, which this crate doesn't have");
     Error::new(crate::ErrorKind::Mismatch, fault)
 }
 
@@ -54,12 +54,12 @@ impl Node {
         Err(Error::of_status(status, fault))
     }
 
-    /// Gives the memory back. Every call is then refused.
+    /// Closes the node and frees its memory. Every later call fails.
     pub fn close(&mut self) {
         sys::failreg_close(&mut self.handle);
     }
 
-    /// Whether it was closed.
+    /// Returns whether the node is closed.
     pub fn is_closed(&mut self) -> bool {
         sys::failreg_calls(&mut self.handle, &mut 0) == sys::FAILREG_E_CLOSED
     }
@@ -77,9 +77,9 @@ impl Node {
             sys::FAILREG_E_NOT_UTF8 => "the text is not UTF-8".into(),
             sys::FAILREG_E_CLOSED => "the registry is closed".into(),
             sys::FAILREG_E_NO_POINT => "no point has the number".into(),
-            sys::FAILREG_E_NO_ENTRY => "the node keeps no call of the number".into(),
+            sys::FAILREG_E_NO_ENTRY => "the node stores no call with this number".into(),
             sys::FAILREG_E_NO_LINE => "it is no line of a call".into(),
-            sys::FAILREG_E_DIFFERS => "the node does not answer as it says".into(),
+            sys::FAILREG_E_DIFFERS => "replaying the call gives another result".into(),
             _ => match self.last_fault() {
                 Some(fault) => fault.into(),
                 None => format!("N{status}").into(),
@@ -87,7 +87,7 @@ impl Node {
         }
     }
 
-    // The text of the last refusal, unless there is no memory for it.
+    // The text of the last rejected call, unless there is no memory for it.
     fn last_fault(&mut self) -> Option<String> {
         let mut bytes = [0; LONGEST_FAULT];
         let mut length = 0;
@@ -98,7 +98,7 @@ impl Node {
         (status == sys::FAILREG_OK).then(text)
     }
 
-    // A reader of a name keeps no text: it refuses bad names, and where memory is wanted.
+    // A reader of a name leaves no error text: it rejects bad names, and fails without memory.
     fn read<T>(&mut self, status: u32, value: T) -> Result<T, Error> {
         match status {
             sys::FAILREG_E_BAD_NAME => Err(Error::of_status(status, "N2 BadName")),
@@ -124,7 +124,7 @@ impl Node {
             .unwrap_or_else(|other| String::from_utf8_lossy(other.as_bytes()).into_owned())
     }
 
-    /// The first line of the node's part, without a newline.
+    /// Returns the first line of the node's journal, without a newline.
     pub fn part_head(&mut self, run: &str) -> Result<String, Error> {
         let h = &mut self.handle;
         // SAFETY: a text and its length.
@@ -133,21 +133,21 @@ impl Node {
         Ok(self.fetch_text())
     }
 
-    /// The line of a call that is kept, by its number from 0, without a newline.
+    /// Returns the line of a call of the history, by its number from 0, without a newline.
     pub fn entry(&mut self, index: u64) -> Result<String, Error> {
         let status = sys::failreg_entry(&mut self.handle, index);
         self.answer(status, ())?;
         Ok(self.fetch_text())
     }
 
-    /// The line of the newest call.
+    /// Returns the line of the newest call.
     pub fn last_entry(&mut self) -> Result<String, Error> {
         let calls = self.calls()?;
-        // Where there is no call, no call has this number.
+        // If there is no call, no call has this number.
         self.entry(calls.wrapping_sub(1))
     }
 
-    /// Makes the call of a line again.
+    /// Repeats the call of a line.
     pub fn repeat(&mut self, line: &[u8]) -> Result<(), Error> {
         let (at, len) = (line.as_ptr(), line.len());
         // SAFETY: bytes and how many they are.
@@ -155,7 +155,7 @@ impl Node {
         self.answer(status, ())
     }
 
-    /// The random draws of the last pass.
+    /// Returns the random draws of the last evaluation.
     pub fn words(&mut self) -> Vec<u32> {
         let mut words = [0; 16];
         let (into, room) = (words.as_mut_ptr(), words.len());
@@ -197,7 +197,7 @@ impl Node {
         self.passed(status, &act)
     }
 
-    /// The number of a point, for `pass_at`.
+    /// Returns the number of a point, for `pass_at`.
     pub fn point(&mut self, name: &str) -> Result<u32, Error> {
         let mut point = 0;
         let h = &mut self.handle;
@@ -246,7 +246,7 @@ impl Node {
         })
     }
 
-    /// Whether a point is set.
+    /// Returns whether a point is set.
     pub fn is_set(&mut self, name: &str) -> Result<bool, Error> {
         let mut is_set = false;
         let h = &mut self.handle;
@@ -255,7 +255,7 @@ impl Node {
         self.read(status, is_set)
     }
 
-    /// Whether a point isn't set under a stamp any more.
+    /// Returns whether a point isn't set under this version any more.
     pub fn is_pause_over(&mut self, name: &str, stamp: Stamp) -> Result<bool, Error> {
         let Stamp { clock, node } = stamp;
         let since = sys::failreg_stamp { clock, node };
@@ -286,14 +286,14 @@ impl Node {
         self.answer(status, total)
     }
 
-    /// Moves rights to where passes happen; answers by how many shifts.
+    /// Moves spare rights to nodes that ran out. Returns the number of transfers.
     pub fn share(&mut self) -> Result<u64, Error> {
         let mut shifts = 0;
         let status = sys::failreg_share(&mut self.handle, &mut shifts);
         self.answer(status, shifts)
     }
 
-    /// Deals the rights to a point out; answers how many are kept.
+    /// Divides the rights to a point evenly among all nodes. Returns how many this node keeps.
     pub fn spread(&mut self, name: &str) -> Result<u64, Error> {
         let mut kept = 0;
         let h = &mut self.handle;
@@ -302,7 +302,7 @@ impl Node {
         self.answer(status, kept)
     }
 
-    /// Sets a point, and deals the rights to it out.
+    /// Sets a point, and divides its rights evenly among all nodes.
     pub fn set_spread(&mut self, name: &str, actions: &str) -> Result<Stamp, Error> {
         let mut stamp = sys::failreg_stamp::default();
         let (at, len) = (actions.as_ptr(), actions.len());
@@ -327,7 +327,7 @@ impl Node {
         self.answer(status, changed)
     }
 
-    /// Answers a request of HTTP: the status and the body of the reply.
+    /// Handles an HTTP request. Returns the status and the body of the response.
     pub fn reply_to(
         &mut self,
         method: &str,
@@ -396,7 +396,7 @@ impl Node {
         self.answer(status, acked)
     }
 
-    /// Frees the calls that the node keeps. A closed node has none.
+    /// Discards the call history. A closed node has none.
     pub fn forget(&mut self) {
         sys::failreg_forget(&mut self.handle);
     }

@@ -1,5 +1,5 @@
-//! The part of a node: the file that has the line of each call that it accepted, from which it goes on
-//! when its process starts again.
+//! A node's journal: the file with the line of each call that the node accepted, from which it
+//! resumes when its process restarts.
 
 use crate::builder::Builder;
 use crate::error::{Error, ErrorKind};
@@ -13,17 +13,17 @@ use std::sync::{Arc, Condvar, Mutex, MutexGuard};
 use std::thread::{self, JoinHandle};
 use std::time::Duration;
 
-/// How many bytes of a part are read at once.
+/// How many bytes of a journal are read at once.
 const CHUNK: usize = 65_536;
 
-/// The most bytes of a line, its newline included: what `failreg audit` reads too.
+/// The longest line, in bytes with its newline: what `failreg audit` reads, too.
 const MOST_OF_LINE: usize = 268_435_456;
 
-/// How much of a first line is read, to say of what it is.
+/// How many bytes of a first line are read to say what the file is.
 const MOST_OF_HEAD: usize = 4_096;
 
-/// How often a lock is tried, and the rest between. A process that is gone may have been starting
-/// another one, which has its files for a moment.
+/// How often to try to lock the file, and the pause between. A process that is gone may have just
+/// started another one, which holds its files for a moment.
 const TRIES: u32 = 20;
 const REST: Duration = Duration::from_millis(10);
 
@@ -31,34 +31,33 @@ const REST: Duration = Duration::from_millis(10);
 const LONGEST_WAIT: Duration = Duration::from_millis(50);
 const MOST_WAITING: usize = 65_536;
 
-/// A part that is written, and locked for this process while it is.
+/// A journal that is open for writing, and locked for this process.
 pub struct Part {
     shared: Arc<Shared>,
-    /// What writes lines that have waited for long, where lines may wait.
+    /// The thread that writes lines that waited, if lines may wait.
     writer: Option<JoinHandle<()>>,
 }
 
 struct Shared {
     lines: Mutex<Lines>,
-    /// Told where the first line waits, and where the part is closed.
+    /// Notified when the first line waits, and when the journal is closed.
     changed: Condvar,
 }
 
-/// What the lock of a part guards. It is taken behind that of the registry, and never the other way
-/// round.
+/// What the lock of a journal guards. It is taken after that of the registry, never before.
 struct Lines {
-    /// Nothing once a write failed.
+    /// `None` after a failed write.
     out: Option<Box<dyn Write + Send>>,
-    /// Why it failed.
+    /// Why the write failed.
     fault: String,
     /// Whole lines that aren't written yet.
     waiting: Vec<u8>,
-    /// Whether the thread that writes them waits for the first one.
+    /// Whether the writing thread waits for the first of them.
     is_idle: bool,
     is_closed: bool,
 }
 
-/// A file each of whose writes is with the disk before it is done.
+/// A file whose writes reach the disk before they return.
 struct Synced(File);
 
 impl Write for Synced {
@@ -72,8 +71,8 @@ impl Write for Synced {
 }
 
 impl Part {
-    /// Opens the part of a node that was just opened, which goes on from it, and locks it. A new one
-    /// is begun where nothing is. Where it is refused, the file is as it was.
+    /// Opens and locks the journal of a node that was just opened, and replays it. Starts a new one
+    /// if the file is missing or empty. After an error the file is unchanged.
     pub fn open(path: &Path, made: &Builder, node: &mut Node) -> Result<Part, Error> {
         let opened = open(path, made, node).and_then(|file| match made.is_synced {
             true => Part::to(Synced(file), made.is_buffered),
@@ -106,12 +105,12 @@ impl Part {
         Ok(part)
     }
 
-    /// Whether lines may wait.
+    /// Returns whether lines may wait.
     pub fn is_buffered(&self) -> bool {
         self.writer.is_some()
     }
 
-    /// Writes a line, which has its newline, behind those that wait; or lets it wait, where it may.
+    /// Writes a line, with its newline, after those that wait; or adds it to them, if it may wait.
     pub fn put(&self, line: &str, may_wait: bool) -> Result<(), Error> {
         let mut lines = self.shared.lock();
         if may_wait && self.is_buffered() && lines.waiting.len() < MOST_WAITING {
@@ -120,21 +119,21 @@ impl Part {
                 lines.is_idle = false;
                 self.shared.changed.notify_one();
             }
-            // Of a part that has failed none is written, and that is told.
+            // After a failed write nothing is written, and this line's error says so.
             return lines.goes_on().map_err(not_recorded);
         }
         lines.write(line.as_bytes()).map_err(not_recorded)
     }
 
-    /// Writes the lines that wait. Where that fails, `goes_on` says so.
+    /// Writes the lines that wait. `goes_on` returns the error if that fails.
     pub fn flush(&self) {
         _ = self.shared.lock().write(b"");
     }
 
-    /// Whether lines are still written: until one couldn't be.
+    /// Returns the error of the first write that failed.
     pub fn goes_on(&self) -> Result<(), Error> {
         self.shared.lock().goes_on().map_err(|why| {
-            let fault = format!("a call could not be recorded before ({why})");
+            let fault = format!("an earlier call could not be recorded ({why})");
             Error::new(ErrorKind::RecordingFailed, fault)
         })
     }
@@ -146,7 +145,7 @@ impl Drop for Part {
         self.shared.lock().is_closed = true;
         self.shared.changed.notify_one();
         if let Some(writer) = self.writer.take() {
-            // Then nobody has the file, and its lock is gone.
+            // Then nobody has the file open, and its lock is gone.
             drop(writer.join());
         }
     }
@@ -155,14 +154,14 @@ impl Drop for Part {
 impl Shared {
     fn lock(&self) -> MutexGuard<'_, Lines> {
         self.lines.lock().unwrap_or_else(|poisoned| {
-            // After a panic of the writer nobody knows what it took.
+            // After a panic of the writer nobody knows how much it wrote.
             let mut lines = poisoned.into_inner();
             lines.out = None;
             lines
         })
     }
 
-    // Writes lines that have waited for long, until the part is closed.
+    // Writes lines that waited long enough, until the journal is closed.
     fn write_in_time(&self) {
         let mut lines = self.lock();
         while !lines.is_closed {
@@ -187,7 +186,7 @@ impl Lines {
         self.out.is_some().then_some(()).ok_or(&self.fault)
     }
 
-    // Hands out what waits and this line in one write, and lets go of the file where it fails.
+    // Writes the waiting lines and this line in one write, and closes the file if it fails.
     fn write(&mut self, line: &[u8]) -> Result<(), &str> {
         let Some(mut out) = self.out.take() else {
             return Err(&self.fault);
@@ -218,18 +217,18 @@ fn unread(error: io::Error) -> Error {
     bad(format!("it can't be read ({error})"))
 }
 
-// The file, locked, behind which the next line goes, and the node as it left it.
+// Returns the locked file, positioned for the next line, after the node replayed it.
 fn open(path: &Path, made: &Builder, node: &mut Node) -> Result<File, Error> {
     let file = locked(path)?;
     let head = node.part_head(&made.run)? + "\n";
     let whole = resume(&file, &head, node)?;
     let ready = match whole {
         0 => begin(&file, path, &head, made.is_synced),
-        // Nobody was told of the call whose line has no end.
+        // The result of a call with an incomplete line was never visible.
         whole => file.set_len(whole),
     };
     let unready = |error: io::Error| {
-        let fault = format!("the part could not be begun ({error})");
+        let fault = format!("the journal could not be started ({error})");
         Error::new(ErrorKind::RecordingFailed, fault)
     };
     ready.map(|()| file).map_err(unready)
@@ -260,15 +259,15 @@ fn begin(mut file: &File, path: &Path, head: &str, is_synced: bool) -> io::Resul
     file.write_all(head.as_bytes())?;
     if is_synced {
         file.sync_all()?;
-        // Its name as well.
+        // Its directory entry as well.
         let folder = path.canonicalize()?;
         File::open(folder.parent().unwrap_or(&folder))?.sync_all()?;
     }
     Ok(())
 }
 
-// Makes the calls of a part again; answers how many bytes its whole lines have, 0 where it has to be
-// begun. Nothing of a line is kept.
+// Replays the calls of a journal. Returns the number of bytes of its whole lines, 0 if it has none.
+// It stores no line.
 fn resume(file: &File, head: &str, node: &mut Node) -> Result<u64, Error> {
     let mut reader = BufReader::with_capacity(CHUNK, file);
     let mut line = Vec::new();
@@ -299,7 +298,7 @@ fn resume(file: &File, head: &str, node: &mut Node) -> Result<u64, Error> {
     Ok(whole)
 }
 
-// Reads as far as the end of a line, and so many bytes at most.
+// Reads up to the end of a line, at most this many bytes.
 fn read_line(reader: &mut impl BufRead, most: usize, line: &mut Vec<u8>) -> Result<(), Error> {
     let read = reader.take(most as u64).read_until(b'\n', line);
     read.map(drop).map_err(unread)
@@ -312,7 +311,7 @@ fn in_line(number: u64, error: Error) -> Error {
     }
 }
 
-// What another first line says that the node's own doesn't.
+// Returns how another first line differs from the node's own.
 fn differences(met: &str, head: &str) -> String {
     let (met, own) = (members(met), members(head));
     if !met.contains(&("failreg", "\"part\"")) {
@@ -332,8 +331,7 @@ fn differences(met: &str, head: &str) -> String {
     }
 }
 
-// The members of a first line as it is written, with their values. No text has a quote that isn't
-// escaped.
+// Returns the members of a first line, with their values. No text has an unescaped quote.
 fn members(head: &str) -> Vec<(&str, &str)> {
     let inner = head
         .trim_end()
@@ -348,7 +346,7 @@ mod tests {
     use super::*;
     use std::time::Instant;
 
-    /// Takes so many bytes, each time that it is written to a piece of its own, and fails then.
+    /// Accepts this many bytes, one piece at a time, and then fails.
     #[derive(Clone)]
     struct Narrow {
         room: usize,

@@ -1,4 +1,4 @@
-//! Passes whose tasks are carried out, as fail-rs does.
+//! Evaluations that carry out their actions, as fail-rs does.
 
 use crate::error::Error;
 use crate::points::Site;
@@ -8,8 +8,8 @@ use std::sync::MutexGuard;
 use std::time::{Duration, Instant};
 
 impl Registry {
-    /// Passes a point if it is set, and carries its task out as fail-rs does. Where the task is
-    /// `return`, the answer is its argument. A point that isn't set isn't passed.
+    /// Evaluates a point if it is set, and carries out its action as fail-rs does. Returns the
+    /// argument of `return`, if that is the action. A point that isn't set isn't evaluated.
     #[inline]
     pub fn eval(&self, name: &str) -> Option<Option<String>> {
         if !self.shown.may_be_set(name) {
@@ -27,7 +27,7 @@ impl Registry {
         self.obey(state, name, passed)
     }
 
-    /// The same at a site that always has this name, which remembers what was found of the point.
+    /// Evaluates the point of a site, whose name is always this one, with the site's cache.
     #[doc(hidden)]
     #[inline]
     pub fn eval_at(&self, site: &Site, name: &str) -> Option<Option<String>> {
@@ -46,7 +46,7 @@ impl Registry {
         self.obey(state, name, passed)
     }
 
-    // Passes the point of a site by its number, which the site remembers.
+    // Evaluates the point of a site by its cached number.
     fn pass_at(&self, state: &mut State, name: &str, site: &Site) -> Result<Passed, Error> {
         let point = match site.point_of(state.id) {
             Some(point) => point,
@@ -59,7 +59,8 @@ impl Registry {
         self.pass_in(state, name, |node| node.pass_at(point))
     }
 
-    // Does what a pass came to, or what is to be done where it was refused, without the lock.
+    // Carries out the result of an evaluation, or `on_refusal` if it was rejected, without the
+    // lock.
     fn obey(
         &self,
         state: MutexGuard<'_, State>,
@@ -80,7 +81,8 @@ impl Registry {
             }
             Err(error) => {
                 drop(state);
-                // Of a cap that is reached this is the first: no name is shown as set any more.
+                // At the call limit this is the first and only report: no name is published as set
+                // any more.
                 self.made.on_refusal.meet(&error.at_point(name));
                 None
             }
@@ -103,8 +105,8 @@ impl Registry {
         None
     }
 
-    // Waits until the point isn't set under the stamp any more, the node is another one, or no
-    // setting changes any more.
+    // Waits until the point isn't set under this version any more, the node is another one, or no
+    // configuration changes any more.
     fn wait_out(&self, name: &str, id: u64, stamp: Stamp) {
         let mut state = self.lock();
         while state.id == id

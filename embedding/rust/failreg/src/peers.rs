@@ -1,16 +1,16 @@
-//! What was heard of the other nodes of a cluster.
+//! Messages from the other nodes of a cluster.
 
 use crate::error::{Error, ErrorKind};
 use crate::heads::MAX_BODY;
 use std::time::{SystemTime, UNIX_EPOCH};
 
-/// The codes with which a node refuses a message, in byte order.
+/// The codes of rejected messages, in byte order.
 const CODES: [&str; 8] = ["N1", "N16", "N17", "N18", "N19", "N20", "N22", "N4"];
 
-/// Where a message has the number of its sender: behind the four bytes of its format.
+/// The position of the sender's number in a message: after the four bytes of its format.
 const SENDER: usize = 4;
 
-/// The answers to a node that asks to be told.
+/// The responses to a node that requests a message.
 const TELLING: (u16, &str) = (200, "telling");
 const NO_POST: (u16, &str) = (405, "bad method");
 const NO_OTHER_NODE: (u16, &str) = (
@@ -18,22 +18,22 @@ const NO_OTHER_NODE: (u16, &str) = (
     "no other node of this cluster: send the number of the node that asks to be told",
 );
 
-/// What was heard of a node.
+/// The messages from one node.
 #[derive(Clone, Debug, Default)]
 struct Row {
-    /// When a message of it was last taken in, in milliseconds since 1970.
+    /// When its last message was accepted, in milliseconds since 1970.
     heard: Option<u128>,
-    /// How many of its messages were refused, by code.
+    /// How many of its messages were rejected, by code.
     refused: [u64; CODES.len()],
-    /// Whether it asked to be told, and wasn't since.
+    /// Whether it requested a message that wasn't sent yet.
     has_asked: bool,
 }
 
-/// What was heard of each other node of a cluster.
+/// The messages from each other node of a cluster.
 #[derive(Clone, Debug)]
 pub struct Peers {
     own: usize,
-    /// A row for each node of the cluster; that of the node itself stays empty.
+    /// One row for each node; that of the node itself stays empty.
     rows: Vec<Row>,
 }
 
@@ -45,7 +45,7 @@ impl Peers {
         }
     }
 
-    /// Notes in its sender's row what a message came to. One that names no other node is in none.
+    /// Notes the result of a message in its sender's row, if it names another node.
     pub fn note(&mut self, message: &[u8], refusal: Option<&str>) {
         let sender = message.get(SENDER).map(|node| usize::from(*node));
         let Some(row) = sender.and_then(|node| self.row_of(node)) else {
@@ -61,13 +61,14 @@ impl Peers {
         }
     }
 
-    // The row of another node.
+    // Returns the row of another node.
     fn row_of(&mut self, node: usize) -> Option<&mut Row> {
         let is_other = node != self.own;
         self.rows.get_mut(node).filter(|_| is_other)
     }
 
-    /// Notes that the node asks to be told whose number this is, in decimal digits, and answers it.
+    /// Notes the request of a node, whose number is this text of decimal digits, for a message.
+    /// Returns the response.
     pub fn ask(&mut self, method: &str, body: &[u8]) -> (u16, &'static str) {
         if method != "POST" {
             return NO_POST;
@@ -79,21 +80,21 @@ impl Peers {
         })
     }
 
-    /// Whether another node has asked to be told.
+    /// Returns whether another node requested a message.
     pub fn has_asked(&self, node: u8) -> bool {
         self.rows
             .get(usize::from(node))
             .is_some_and(|row| row.has_asked)
     }
 
-    /// Notes that it is told.
+    /// Notes that it was sent one.
     pub fn has_told(&mut self, node: u8) {
         if let Some(row) = self.row_of(node.into()) {
             row.has_asked = false;
         }
     }
 
-    /// Whether a message of another node was taken in.
+    /// Returns whether a message from another node was accepted.
     pub fn has_heard(&self, node: u8) -> bool {
         self.rows
             .get(usize::from(node))
@@ -108,13 +109,13 @@ impl Peers {
             .filter(move |(node, _)| *node != own)
     }
 
-    /// The first other node of which no message was taken in.
+    /// Returns the first other node without an accepted message.
     pub fn first_unheard(&self) -> Option<usize> {
         let unheard = self.others().find(|(_, row)| row.heard.is_none());
         unheard.map(|(node, _)| node)
     }
 
-    /// A status, an object of JSON, with its last member behind it: an object for each other node.
+    /// Returns a status, a JSON object, with another member: an object for each other node.
     pub fn put_behind(&self, status: &mut Vec<u8>) {
         let rows: Vec<String> = self.others().map(|(node, row)| row.shown(node)).collect();
         status.pop();
@@ -123,7 +124,7 @@ impl Peers {
 }
 
 impl Row {
-    // When it was heard, and how many of its messages were refused.
+    // When its last message was accepted, and how many were rejected.
     fn shown(&self, node: usize) -> String {
         let heard = match self.heard {
             Some(at) => format!("\"{at}\""),
@@ -141,41 +142,42 @@ impl Row {
     }
 }
 
-// A number of digits alone.
+// Returns a number that is written in digits only.
 fn number_in(body: &[u8]) -> Option<usize> {
     let text = std::str::from_utf8(body).ok()?;
     let is_number = !text.is_empty() && text.bytes().all(|byte| byte.is_ascii_digit());
     text.parse().ok().filter(|_| is_number)
 }
 
-// The milliseconds since 1970, by the machine's clock.
+// Returns the milliseconds since 1970, by the machine's clock.
 fn milliseconds() -> u128 {
     let since = SystemTime::now().duration_since(UNIX_EPOCH);
     since.map_or(0, |since| since.as_millis())
 }
 
-/// The refusal of a call that waits for a node.
+/// The error of a call that waits for a node.
 pub fn not_heard(node: usize) -> Error {
     Error::new(ErrorKind::NotHeard, format!("not heard yet: node {node}"))
 }
 
-/// What a request is, as far as other nodes have to do with it.
+/// The kinds of requests, as far as other nodes matter.
 #[derive(Clone, Copy, Debug, PartialEq, Eq)]
 pub enum Kind {
-    /// It may change the node, and delivers nothing.
+    /// It may change the node, and isn't a message.
     Call,
-    /// It delivers a message.
+    /// A message.
     Delivery,
-    /// It asks for a message.
+    /// A request for a message.
     Hello,
-    /// It reads the status.
+    /// A read of the status.
     Status,
-    /// It reads something else, or asks for nothing.
+    /// Another read, or nothing valid.
     Other,
 }
 
 impl Kind {
-    /// Of a request with a body of so many bytes: one that is too long asks for nothing.
+    /// Returns the kind of a request with a body of this length: one that is too long is nothing
+    /// valid.
     pub fn of(method: &str, path: &str, size: usize) -> Kind {
         match (method, path) {
             _ if size > MAX_BODY => Kind::Other,

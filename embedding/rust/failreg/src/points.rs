@@ -1,34 +1,35 @@
-//! Which points are set, for threads that look without a lock.
+//! The points that are set, for threads that read them without a lock.
 
 use std::collections::HashSet;
 use std::sync::atomic::{AtomicU64, Ordering};
 
 const WORDS: usize = 256;
 
-/// The number of the settings in which no point is set.
+/// The number of the configurations in which no point is set.
 const NOTHING_SET: u64 = 0;
 
-/// The last number that settings got. No two settings of a program have one, of whichever registry,
-/// but those in which nothing is set. It guards nothing: each is another number.
+/// The last number of configurations. No two configurations of a program have the same number,
+/// whichever registry they belong to, except those in which nothing is set. It orders no memory
+/// access.
 static LAST_SETTINGS: AtomicU64 = AtomicU64::new(NOTHING_SET);
 
-/// A `fail_point!` in the text of a program, whose point always has the same name: it remembers the
-/// settings in which that point was last found not to be set, and those in which it was, and the
-/// point's number in a node. Threads of several registries may overwrite what others remember, so
-/// each is whole in one word, and guards nothing else.
+/// A `fail_point!` in a program's source, whose point always has the same name. It caches the
+/// configurations in which that point was last found unset, those in which it was found set, and
+/// the point's number in a node. Threads of several registries may overwrite each other's entries,
+/// so each entry is one atomic word and guards nothing else.
 #[derive(Debug)]
 pub struct Site {
-    /// Read without a lock, written under that of the registry whose settings these are.
+    /// Read without a lock, written under the lock of the registry with these configurations.
     unset_in: AtomicU64,
     /// Read and written under a registry's lock.
     set_in: AtomicU64,
-    /// The number of the node, and below it that of the point, plus 1. Read and written under the
-    /// lock of the registry that has the node.
+    /// The number of the node, in the low bits that of the point, plus 1. Read and written under
+    /// the lock of the node's registry.
     point: AtomicU64,
 }
 
 impl Site {
-    /// A site that remembers nothing yet.
+    /// A site with an empty cache.
     pub const fn new() -> Site {
         Site {
             unset_in: AtomicU64::new(NOTHING_SET),
@@ -37,14 +38,14 @@ impl Site {
         }
     }
 
-    /// The number of the site's point in a node, if the site has it.
+    /// Returns the number of the site's point in a node, if it is cached.
     pub(crate) fn point_of(&self, node: u64) -> Option<u32> {
         let point = self.point.load(Ordering::Relaxed);
         let number = (point & POINTS).checked_sub(1)?;
         (point >> POINT_BITS == node).then_some(number as u32)
     }
 
-    /// Remembers the number of the site's point in a node, where both fit.
+    /// Caches the number of the site's point in a node, if both fit.
     pub(crate) fn has_point(&self, node: u64, number: u32) {
         let number = u64::from(number) + 1;
         if number <= POINTS && node <= u64::MAX >> POINT_BITS {
@@ -54,7 +55,7 @@ impl Site {
     }
 }
 
-/// How many bits of a site's word are the number of the point, and the greatest of these numbers.
+/// How many bits of a site's word are the point's number, and the largest such number.
 const POINT_BITS: u32 = 24;
 const POINTS: u64 = (1 << POINT_BITS) - 1;
 
@@ -64,12 +65,12 @@ impl Default for Site {
     }
 }
 
-/// Which settings a registry has, and a bit for each name that is set in them: where a point's bit
-/// is 0, the point isn't set. Another name may have the same bit, so where it is 1, `names` has the
-/// answer.
+/// The configurations of a registry, and a bit for each name that is set in them: if a point's bit
+/// is 0, the point isn't set. Another name may have the same bit, so if it is 1, `names` decides.
 pub struct Shown {
-    /// The number of the settings. Written last, with `Release`, under the registry's lock: who
-    /// reads it with `Acquire` sees the words of these settings, or of later ones.
+    /// The number of the configurations. Written last, with `Release`, under the registry's lock: a
+    /// thread that reads it with `Acquire` sees the words of these configurations, or of later
+    /// ones.
     settings: AtomicU64,
     /// The bits of the names. Written under the registry's lock, read without.
     words: [AtomicU64; WORDS],
@@ -109,15 +110,16 @@ impl Shown {
         self.words[word].load(Ordering::Acquire) & bit != 0
     }
 
-    /// Whether the point of a site may be set. What the site remembers is of these settings alone.
+    /// Returns whether the point of a site may be set. The site's cache counts only for these
+    /// configurations.
     #[inline]
     pub fn may_be_set_at(&self, site: &Site) -> bool {
         let settings = self.settings.load(Ordering::Acquire);
         settings != NOTHING_SET && settings != site.unset_in.load(Ordering::Relaxed)
     }
 
-    /// Whether the point of a site is set, which remembers it; `look` tells where it doesn't. No
-    /// other thread may show names meanwhile.
+    /// Returns whether the point of a site is set, from its cache or else from `look`, and caches
+    /// it. No other thread may publish names meanwhile.
     pub fn is_set_at(&self, site: &Site, look: impl FnOnce() -> bool) -> bool {
         let settings = self.settings.load(Ordering::Relaxed);
         if site.set_in.load(Ordering::Relaxed) == settings && settings != NOTHING_SET {
@@ -129,8 +131,8 @@ impl Shown {
         is_set
     }
 
-    /// Shows these names, as settings of their own; where they aren't known, any may be set. A bit
-    /// that was set and is to be stays set meanwhile.
+    /// Publishes these names, as configurations with a new number; `None` means that any name may
+    /// be set. A bit that stays set is never 0 meanwhile.
     pub fn show(&self, names: Option<&HashSet<String>>) {
         let words = names.map_or([u64::MAX; WORDS], words_of);
         for (shown, word) in self.words.iter().zip(words) {
@@ -144,7 +146,8 @@ impl Shown {
     }
 }
 
-/// The names of a list `name=actions;name=actions`. No action text has a `;`, and no name a `=`.
+/// Returns the names of a list `name=actions;name=actions`. No action string has a `;`, and no name
+/// a `=`.
 pub fn names_in(list: &str) -> HashSet<String> {
     let names = list.split(';').filter_map(|entry| entry.split_once('='));
     names.map(|(name, _)| name.to_string()).collect()
@@ -162,7 +165,7 @@ mod tests {
         assert!(shown.may_be_set("p") && shown.may_be_set_at(&site));
         assert!(!shown.is_set_at(&site, || false));
         assert!(!shown.may_be_set_at(&site));
-        // Shown again they are other settings, of which the site remembers nothing.
+        // Published again they are other configurations, of which the site has no entry.
         shown.show(None);
         assert!(shown.may_be_set_at(&site));
         shown.show(Some(&HashSet::new()));

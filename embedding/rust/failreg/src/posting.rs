@@ -1,4 +1,4 @@
-//! What is posted to another node that is served.
+//! Messages posted to another served node.
 
 use crate::heads::MAX_HEAD;
 use crate::http::{read_by, write_by};
@@ -7,8 +7,8 @@ use std::io::{self, ErrorKind};
 use std::net::{SocketAddr, TcpStream};
 use std::time::Instant;
 
-/// Posts a body to a path of a node that is served at this address, with the key, if there is one, and
-/// answers the status of the reply.
+/// Posts a body to a path of the node at this address, with the key, if there is one. Returns the
+/// status of the response.
 pub fn post(
     stream: &TcpStream,
     (addr, path): (SocketAddr, &str),
@@ -17,7 +17,7 @@ pub fn post(
     end: Instant,
 ) -> io::Result<(u16, Vec<u8>)> {
     let length = body.len();
-    // The scope of an address means something to this machine alone.
+    // The scope of an address is valid only on this machine.
     let host = SocketAddr::new(addr.ip(), addr.port());
     let key = key.map_or(String::new(), Key::field);
     let head = format!(
@@ -35,7 +35,7 @@ pub fn post(
     }
     let no_reply = || io::Error::new(ErrorKind::InvalidData, "no reply of HTTP");
     let status = status_of(&line).ok_or_else(no_reply)?;
-    // Why the message is refused, as far as it can be had.
+    // Why the message was rejected, if the response is readable.
     while status == 400 && line.len() < MAX_HEAD {
         match read_by(stream, &mut piece, end) {
             Ok(0) | Err(_) => break,
@@ -45,14 +45,14 @@ pub fn post(
     Ok((status, body_of(line)))
 }
 
-// What stands behind the head of a reply.
+// Returns what follows the head of a response.
 fn body_of(reply: Vec<u8>) -> Vec<u8> {
     const END: &[u8] = b"\r\n\r\n";
     let place = reply.windows(END.len()).position(|bytes| bytes == END);
     place.map_or(Vec::new(), |place| reply[place + END.len()..].to_vec())
 }
 
-// The status of a reply that begins so.
+// Returns the status of a response that starts like this.
 fn status_of(line: &[u8]) -> Option<u16> {
     let digits = line.strip_prefix(b"HTTP/1.")?.get(2..5)?;
     std::str::from_utf8(digits).ok()?.parse().ok()

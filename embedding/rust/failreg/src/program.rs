@@ -1,14 +1,14 @@
-//! The program's own registry, which `fail_point!` passes points of where it names none.
+//! The program's own registry, which `fail_point!` uses if it names none.
 
 use crate::error::{Error, ErrorKind};
 use crate::registry::Registry;
 use std::sync::{Mutex, MutexGuard, OnceLock};
 
-/// The program's registry, once it is made. It stays until the program ends.
+/// The program's registry, once it is opened. It stays until the program ends.
 static PROGRAM: OnceLock<Registry> = OnceLock::new();
 
-/// Guards the making of it, so that one thread makes it; and says whether `setup` has loaded
-/// FAILPOINTS into it.
+/// Guards its opening, so that one thread opens it; and holds whether `setup` has loaded FAILPOINTS
+/// into it.
 static IS_SET_UP: Mutex<bool> = Mutex::new(false);
 
 fn making() -> MutexGuard<'static, bool> {
@@ -17,17 +17,22 @@ fn making() -> MutexGuard<'static, bool> {
         .unwrap_or_else(|poisoned| poisoned.into_inner())
 }
 
-/// The program's registry, if there is one: [`setup`], [`from_env`](crate::from_env) and
-/// [`Builder::install`](crate::Builder::install) make it, and else the first of the calls that
-/// fail-rs has, as node 0 of 1.
+/// Returns the program's registry, if there is one: [`setup`], [`from_env`](crate::from_env) and
+/// [`Builder::install`](crate::Builder::install) open it, or else the first call of fail-rs's
+/// interface, as node 0 of 1.
 #[inline]
 pub fn program() -> Option<&'static Registry> {
     PROGRAM.get()
 }
 
-/// Makes the program's registry where there is none, as node `number` of a cluster of `nodes`, and
-/// loads FAILPOINTS into it, unless it goes on from its part. A second call answers the registry that is there, whatever its cap; it
-/// is refused where that is another node. A FAILPOINTS that is refused makes no registry.
+/// Opens the program's registry, if there is none, as node `number` of a cluster of `nodes`, and
+/// loads FAILPOINTS into it, unless it resumed from its journal. A second call returns the existing
+/// registry, whatever its call limit.
+///
+/// # Errors
+/// [`AlreadyOpen`](ErrorKind::AlreadyOpen) if the program's registry is another node; otherwise
+/// those of [`Builder::build`](crate::Builder::build), or of a wrong FAILPOINTS, and there is no
+/// registry.
 pub fn setup(number: u8, nodes: u8, cap: u64) -> Result<&'static Registry, Error> {
     let mut is_set_up = making();
     let registry = match PROGRAM.get() {
@@ -47,7 +52,7 @@ pub fn setup(number: u8, nodes: u8, cap: u64) -> Result<&'static Registry, Error
     Ok(registry)
 }
 
-/// The program's registry, which is made where there is none: of the calls that fail-rs has.
+/// Returns the program's registry for the calls of fail-rs, and opens it if there is none.
 pub(crate) fn made() -> Result<&'static Registry, Error> {
     if let Some(registry) = PROGRAM.get() {
         return Ok(registry);
@@ -62,7 +67,7 @@ pub(crate) fn made() -> Result<&'static Registry, Error> {
     }
 }
 
-/// The program's registry, made by this; refused where there is one.
+/// Opens the program's registry with `make`. Errors: `AlreadyOpen` if there is one.
 pub(crate) fn first(
     make: impl FnOnce() -> Result<Registry, Error>,
 ) -> Result<&'static Registry, Error> {

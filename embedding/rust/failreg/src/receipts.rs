@@ -1,25 +1,25 @@
-//! What callers were told of accepted calls, and drills of it, which `failreg audit` reads.
+//! Receipts of accepted calls, and recordings of them, which `failreg audit` reads.
 
 use std::collections::HashMap;
 use std::io::{self, Write};
 use std::thread::ThreadId;
 
-/// The line of a receipt: that of the call's entry, with the node, and the place of the entry in that
-/// node's trace. Members stand in the order of their names.
+/// Returns the line of a receipt: that of the call's entry, with the node and the position of the
+/// entry in the node's call history. Members are in the order of their names.
 pub fn receipt_of(entry: &str, node: u8, index: u64) -> String {
-    // No text has it, since quotes are escaped there.
+    // No text contains this, because quotes are escaped there.
     let reply = entry.find(",\"reply\":[").unwrap_or(entry.len());
     let (asked, told) = entry.split_at(reply);
     format!("{asked},\"index\":{index},\"node\":{node}{told}")
 }
 
-/// The line of a call's entry, and who made the call.
+/// The line of a call's entry, and the thread that made the call.
 struct Receipt {
     caller: ThreadId,
     entry: String,
 }
 
-/// The receipts of a node: the place in the list is the place of the call's entry in the trace.
+/// The receipts of a node, at the positions of their entries in its call history.
 pub struct Receipts {
     node: u8,
     all: Vec<Receipt>,
@@ -33,14 +33,14 @@ impl Receipts {
         }
     }
 
-    /// Keeps the receipt of a call that this thread made, whose entry has this line.
+    /// Stores the receipt of a call that this thread made, whose entry has this line.
     pub fn keep(&mut self, entry: &str) {
         let caller = std::thread::current().id();
         let entry = entry.to_string();
         self.all.push(Receipt { caller, entry });
     }
 
-    /// The places of each caller's receipts; the caller whose call came first stands first.
+    /// Returns the positions of each caller's receipts, callers in the order of their first calls.
     fn by_caller(&self) -> Vec<Vec<usize>> {
         let mut places: HashMap<ThreadId, usize> = HashMap::new();
         let mut lists: Vec<Vec<usize>> = Vec::new();
@@ -75,8 +75,8 @@ fn write_lists(receipts: &Receipts, next: &mut usize, out: &mut impl Write) -> i
     Ok(())
 }
 
-/// Writes the drill of a whole cluster: the trace of each node, and a list of receipts for each
-/// thread that called it.
+/// Writes the recording of a whole cluster: the call history of each node, and a list of receipts
+/// for each thread that called it.
 pub fn write(nodes: &[&Receipts], out: &mut impl Write) -> io::Result<()> {
     writeln!(out, "{{\"failreg\":\"drill\",\"version\":1}}")?;
     for receipts in nodes {

@@ -1,4 +1,4 @@
-//! Drills that are written call by call.
+//! Recordings that are written call by call.
 
 use crate::error::{Error, ErrorKind};
 use crate::kept::not_recorded;
@@ -9,9 +9,8 @@ use std::io::{self, Write};
 use std::path::Path;
 use std::sync::{Arc, Mutex, MutexGuard};
 
-/// Where registries write the drill of their cluster while they are called, in pieces that
-/// `failreg audit` reads. Nothing of a call is kept once it is written, so that a registry may record
-/// for as long as there is room for the drill.
+/// Writes the recording of a cluster while its registries are called, in a form that `failreg
+/// audit` reads. It stores no call in memory, so registries can record until the disk is full.
 ///
 /// ```
 /// use failreg::{Recorder, Registry};
@@ -27,42 +26,42 @@ use std::sync::{Arc, Mutex, MutexGuard};
 /// # Ok::<(), Box<dyn std::error::Error>>(())
 /// ```
 ///
-/// **A call whose lines can't be written says so**, as [`NotRecorded`](ErrorKind::NotRecorded), and
-/// from then on no registry of the recorder makes a call
-/// ([`RecordingFailed`](ErrorKind::RecordingFailed)): whatever happened is in the drill, but for that
-/// one call. Before a call returns, its lines are handed to the writer in one piece, and flushed. So
-/// what was written of the calls before is a drill, also where the program is killed; a part of the
-/// lines of the last call may stand behind it, which an audit refuses by its line.
+/// **A call whose lines can't be written fails** with [`NotRecorded`](ErrorKind::NotRecorded), and
+/// from then on no registry of the recorder accepts a call
+/// ([`RecordingFailed`](ErrorKind::RecordingFailed)): the recording lacks only that one call. The
+/// lines of a call are written in one piece, and flushed, before the call returns. So the file is a
+/// complete recording even if the program is killed, except that an incomplete last line may
+/// follow, which an audit rejects with its line number.
 ///
-/// A drill takes all nodes of its cluster, each of them recording since it was opened, and all of
-/// them in one program: build each with a clone of the recorder. The receipts stand in one list for
-/// each node, in the order in which it accepted the calls.
+/// A recording needs all nodes of its cluster, all in one program, each recording since it was
+/// opened: build each with a clone of the recorder. It has one list of receipts for each node, in
+/// the order in which the node accepted the calls.
 #[derive(Clone)]
 pub struct Recorder {
-    /// Guards the drill and its writer, so that the lines of a call stand together. It is taken behind
-    /// the lock of a registry, and never the other way round.
+    /// Guards the recording and its writer, so that the lines of a call stay together. It is taken
+    /// after the lock of a registry, never before.
     shared: Arc<Mutex<Drill>>,
 }
 
-/// A drill of which a part is written.
+/// A recording in progress.
 struct Drill {
-    /// Nothing once a write failed.
+    /// `None` after a failed write.
     out: Option<Box<dyn Write + Send>>,
-    /// For each node of the cluster how many of its calls are written, where it was opened; none
-    /// before the first was.
+    /// For each node of the cluster that was opened, how many of its calls are written; empty
+    /// before the first was opened.
     nodes: Vec<Option<u64>>,
     /// The lines of a call, before they are written.
     lines: Vec<u8>,
 }
 
 impl Recorder {
-    /// A recorder that writes to a new file. It is an error where there is one already.
+    /// Creates a recorder that writes to a new file. Fails if the file exists.
     pub fn create(path: impl AsRef<Path>) -> io::Result<Recorder> {
         Ok(Recorder::new(File::create_new(path)?))
     }
 
-    /// A recorder that writes there, each call on its own: a buffer would only be flushed each time.
-    /// The writer is called while the registry is locked: it calls no registry.
+    /// Creates a recorder that writes to `out`, once per call: a buffer would only be flushed each
+    /// time. The writer is called while the registry is locked, so it must not call a registry.
     pub fn new(out: impl Write + Send + 'static) -> Recorder {
         Recorder {
             shared: Arc::new(Mutex::new(Drill {
@@ -75,35 +74,35 @@ impl Recorder {
 
     fn lock(&self) -> MutexGuard<'_, Drill> {
         self.shared.lock().unwrap_or_else(|poisoned| {
-            // After a panic of the writer nobody knows what it took.
+            // After a panic of the writer nobody knows how much it wrote.
             let mut drill = poisoned.into_inner();
             drill.out = None;
             drill
         })
     }
 
-    /// Takes in a node that was opened. With the first one the drill begins.
+    /// Adds a node that was opened. The recording starts with the first one.
     pub(crate) fn open(&self, node: u8, nodes: u8) -> Result<(), Error> {
         let mut drill = self.lock();
         if drill.nodes.is_empty() {
             drill.begin(nodes).map_err(not_begun)?;
         }
         if drill.nodes.len() != usize::from(nodes) {
-            return Err(bad_recorder("the drill is of another cluster"));
+            return Err(bad_recorder("the recorder belongs to another cluster"));
         }
         let written = &mut drill.nodes[usize::from(node)];
         if written.is_some() {
-            return Err(bad_recorder("the drill has the node already"));
+            return Err(bad_recorder("the recorder has the node already"));
         }
         *written = Some(0);
         Ok(())
     }
 
-    /// Whether calls are still made: until one couldn't be written.
+    /// Returns the error if a call couldn't be written.
     pub(crate) fn goes_on(&self) -> Result<(), Error> {
         match self.lock().out {
             Some(_) => Ok(()),
-            None => Err(failed("a call could not be recorded before")),
+            None => Err(failed("an earlier call could not be recorded")),
         }
     }
 
@@ -114,7 +113,8 @@ impl Recorder {
 }
 
 impl Drill {
-    // The first line, and a trace and a list for each node, which go on in pieces.
+    // Writes the first line, and a call history and a list of receipts for each node, which
+    // continue in pieces.
     fn begin(&mut self, nodes: u8) -> io::Result<()> {
         self.nodes = vec![None; usize::from(nodes)];
         writeln!(self.lines, "{{\"failreg\":\"drill\",\"version\":2}}")?;
@@ -126,7 +126,7 @@ impl Drill {
         self.hand_out()
     }
 
-    // A piece of the node's trace, and one of its list, each with the next line of it.
+    // Writes a piece of the node's call history and one of its list, each with the next line.
     fn write_call(&mut self, node: u8, entry: &str) -> io::Result<()> {
         let written = &mut self.nodes[usize::from(node)];
         let index = written.unwrap_or(0);
@@ -137,7 +137,7 @@ impl Drill {
         self.hand_out()
     }
 
-    // Hands the lines to the writer, and lets go of it where it fails.
+    // Passes the lines to the writer, and drops it if it fails.
     fn hand_out(&mut self) -> io::Result<()> {
         let Some(mut out) = self.out.take() else {
             return Err(io::Error::other("an earlier write failed"));
@@ -155,7 +155,7 @@ fn failed(fault: &'static str) -> Error {
 }
 
 fn not_begun(error: io::Error) -> Error {
-    let fault = format!("the drill could not be begun ({error})");
+    let fault = format!("the recording could not be started ({error})");
     Error::new(ErrorKind::RecordingFailed, fault)
 }
 
@@ -173,7 +173,7 @@ impl fmt::Debug for Recorder {
 mod tests {
     use super::*;
 
-    /// Takes so many bytes, and fails then.
+    /// Accepts this many bytes, and then fails.
     struct Narrow {
         room: usize,
         taken: Arc<Mutex<Vec<u8>>>,
@@ -272,7 +272,7 @@ mod tests {
                 recorder.write(1, PASS).unwrap_err().kind(),
                 ErrorKind::NotRecorded
             );
-            // What was taken is where the drill begins.
+            // The bytes that were accepted are the start of the recording.
             assert_eq!(text(), format!("{BEGUN}{TWO_CALLS}")[..room]);
         }
         let (recorder, _) = recorder(whole);

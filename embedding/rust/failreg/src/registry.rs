@@ -17,27 +17,37 @@ use std::panic::{RefUnwindSafe, UnwindSafe};
 use std::sync::atomic::{AtomicU64, Ordering};
 use std::sync::{Arc, Condvar, Mutex, MutexGuard, TryLockError};
 
-/// How often a thread pauses each time that it finds the lock taken, before it sleeps until it gets
-/// it. A call holds the lock for less time than a thread takes to fall asleep and be woken, and
-/// each look at a taken lock slows the thread that has it: so the next look is later each time.
+/// How often a thread finds the lock taken and pauses before it sleeps. A call holds the lock for
+/// less time than a thread takes to fall asleep and wake up. Each try slows the thread that holds
+/// the lock, so each pause is longer than the one before.
 const PAUSES: [u32; 9] = [64, 128, 256, 512, 1024, 2048, 4096, 8192, 16384];
 
-/// One node of a cluster, for any number of threads. Its number is its own: no other node of the
-/// cluster has it, and none had it before, in an earlier run of the program either, unless the node
-/// goes on from its part ([`Builder::recording`]).
+/// One node of a cluster, for any number of threads. No other node of the cluster has its number,
+/// and none had it before, not even in an earlier run of the program, unless the node resumes from
+/// its journal ([`Builder::recording`]).
 ///
-/// Without the feature `failpoints` no point is ever set at it: what would change it is refused.
+/// Without the feature `failpoints` no point is ever set, and calls that would change the node
+/// return [`Disabled`](ErrorKind::Disabled).
+///
+/// # Errors
+/// Each call that changes the node can return [`CapReached`](ErrorKind::CapReached),
+/// [`OutOfMemory`](ErrorKind::OutOfMemory) and [`Closed`](ErrorKind::Closed); with
+/// [`hear_first`](Builder::hear_first) also [`NotHeard`](ErrorKind::NotHeard), and with a journal
+/// or a recorder [`NotRecorded`](ErrorKind::NotRecorded) and
+/// [`RecordingFailed`](ErrorKind::RecordingFailed). The methods list the others. An error means
+/// that nothing changed, except `NotRecorded`.
 pub struct Registry {
-    /// Which points are set, for threads that look without the lock. Written under it.
+    /// The points that are set, for threads that read them without the lock. Written under the
+    /// lock.
     pub(crate) shown: Shown,
-    /// Guards the node, and all that changes together with it.
+    /// Guards the node and everything that changes together with it.
     state: Mutex<State>,
-    /// Told under the lock of each change of the settings, and of the end of all changes.
+    /// Notified under the lock of each change of configurations, and of the end of all changes.
     pub(crate) changed: Condvar,
-    /// Whether the node went on from a part that had calls.
+    /// Whether the node resumed from a journal with calls.
     goes_on: bool,
     pub(crate) made: Builder,
-    /// What its clients have to have, and its peers ask for.
+    /// The key that clients must present, and that the node sends to its peers.
     pub(crate) key: Option<Key>,
 }
 
@@ -46,31 +56,32 @@ pub(crate) type Callback = Arc<dyn Fn() + Send + Sync>;
 /// What the lock of a registry guards.
 pub(crate) struct State {
     pub(crate) node: Node,
-    /// No other node of the program has it.
+    /// Unique among the program's nodes.
     pub(crate) id: u64,
-    /// The points that are set; nothing where memory for the list was refused, and the node is
-    /// asked.
+    /// The points that are set; `None` if the allocation of the set failed, and the node itself has
+    /// to be queried.
     names: Option<HashSet<String>>,
-    /// What a pass of a point calls while it is set under the stamp.
+    /// The closure that an evaluation of a point calls while it is set under this version.
     callbacks: HashMap<String, (Stamp, Callback)>,
     kept: Kept,
-    /// How often the lock was taken since the node forgot its calls: at least as often as it was
-    /// called.
+    /// How often the lock was taken since the node discarded its call history: at least as often as
+    /// it was called.
     turns: u32,
-    /// Whether no setting changes any more.
+    /// Whether no configuration changes any more.
     pub(crate) is_over: bool,
-    /// Whether it was said that the node has forgotten what it did.
+    /// Whether the loss of the node's state was reported.
     has_forgotten: bool,
     pub(crate) peers: Peers,
-    /// Whether calls wait until each other node was heard.
+    /// Whether calls are rejected until a message from each other node has arrived.
     pub(crate) waits: bool,
 }
 
-/// How many calls a node keeps at most, so that its memory doesn't grow with its passes.
+/// The most calls in a node's history, so that memory doesn't grow with evaluations.
 pub(crate) const MOST_KEPT: u32 = 1024;
 
 fn id_of_a_node() -> u64 {
-    /// How many nodes the program has opened. It orders nothing: each is another number.
+    /// The number of nodes that the program has opened, which numbers them. It orders no memory
+    /// access.
     static NODES: AtomicU64 = AtomicU64::new(0);
     NODES.fetch_add(1, Ordering::Relaxed)
 }
@@ -96,13 +107,13 @@ impl State {
         })
     }
 
-    /// Whether calls are taken yet: they may wait for a node to be heard.
+    /// Whether calls are accepted yet: they may wait for a message from a node.
     pub(crate) fn has_heard(&self) -> Result<(), Error> {
         let awaited = self.waits.then(|| self.peers.first_unheard()).flatten();
         awaited.map_or(Ok(()), |node| Err(not_heard(node)))
     }
 
-    /// Notes what a message came to. Answers whether calls were waiting for it.
+    /// Notes the result of a message. Returns whether calls were waiting for it.
     pub(crate) fn note(&mut self, message: &[u8], refusal: Option<&str>) -> bool {
         self.peers.note(message, refusal);
         let was_waiting = self.waits;
@@ -117,14 +128,14 @@ impl State {
         }
     }
 
-    /// What a pass of a point under this stamp calls, if it calls anything.
+    /// The closure that an evaluation of the point under this version calls, if there is one.
     pub(crate) fn callback(&self, name: &str, stamp: Stamp) -> Option<Callback> {
         let (since, run) = self.callbacks.get(name)?;
         (*since == stamp).then(|| run.clone())
     }
 
-    /// Lets the node forget its calls every so many of them: nothing here reads them again, since
-    /// what is recorded of them has all that a drill needs.
+    /// Discards the node's call history every so many calls: nothing here reads it again, because a
+    /// recording gets each call at once.
     fn forget_if_many(&mut self) {
         self.turns += 1;
         if self.turns >= MOST_KEPT {
@@ -133,7 +144,7 @@ impl State {
         }
     }
 
-    /// Takes out the callbacks of points that have another setting by now, or none.
+    /// Removes and returns the callbacks of points that have another configuration by now, or none.
     fn callbacks_over(&mut self) -> Vec<Callback> {
         let State {
             node, callbacks, ..
@@ -156,7 +167,8 @@ impl State {
 }
 
 impl Registry {
-    /// Begins a registry of which more than the number, the nodes and the cap is said:
+    /// Returns a builder for a registry with more options than its number, cluster size and call
+    /// limit:
     ///
     /// ```
     /// use failreg::{OnRefusal, Registry};
@@ -175,7 +187,11 @@ impl Registry {
         Builder::default()
     }
 
-    /// Node `number` of a cluster of `nodes` (1 to 32), which accepts `cap` calls in its life.
+    /// Opens node `number` of a cluster of `nodes` (1 to 32), which accepts `cap` calls in its
+    /// life.
+    ///
+    /// # Errors
+    /// [`BadConfig`](ErrorKind::BadConfig) or [`OutOfMemory`](ErrorKind::OutOfMemory).
     pub fn open(number: u8, nodes: u8, cap: u64) -> Result<Registry, Error> {
         Registry::builder()
             .node(number)
@@ -209,7 +225,7 @@ impl Registry {
         (self.made.number, self.made.nodes) == (number, nodes)
     }
 
-    // A lock that a panic poisoned is as good as another: no call is left half done by one.
+    // A poisoned lock is as good as any: a panic leaves no call half done.
     pub(crate) fn lock(&self) -> MutexGuard<'_, State> {
         let mut state = self.wait_for_lock();
         state.forget_if_many();
@@ -230,7 +246,8 @@ impl Registry {
             .unwrap_or_else(|poisoned| poisoned.into_inner())
     }
 
-    // Makes a call that changes the node, and keeps it by this. It may wait for other nodes.
+    // Makes a call that changes the node, and records it with `keep`. The call may have to wait for
+    // messages from other nodes.
     fn make<T>(
         &self,
         state: &mut State,
@@ -241,7 +258,7 @@ impl Registry {
         self.make_at_once(state, make, keep)
     }
 
-    // The same of a call that waits for nobody.
+    // Like `make`, for a call that waits for nobody.
     fn make_at_once<T>(
         &self,
         state: &mut State,
@@ -258,7 +275,7 @@ impl Registry {
         answer
     }
 
-    // The same of a call that is no pass.
+    // Like `make`, for a call that is no evaluation.
     fn call<T>(
         &self,
         state: &mut State,
@@ -267,7 +284,7 @@ impl Registry {
         self.make(state, make, |kept, node, _| kept.keep(node))
     }
 
-    // The same of one that makes a message, or takes one in.
+    // Like `make_at_once`, for a call that makes or accepts a message.
     fn carry<T>(
         &self,
         state: &mut State,
@@ -276,14 +293,14 @@ impl Registry {
         self.make_at_once(state, make, |kept, node, _| kept.keep(node))
     }
 
-    /// Whether the node may be called: no call is made any more once one couldn't be written.
+    /// Whether the node accepts calls: none any more after one couldn't be written.
     pub(crate) fn may_be_called(&self, state: &mut State) -> Result<(), Error> {
         let goes_on = state.kept.goes_on();
         self.end_unless(state, goes_on)
     }
 
-    /// Keeps or writes a call that was accepted, where that is asked for. Where it can't be written
-    /// no call is made any more.
+    /// Records an accepted call, if recording is on. If it can't be written, the node accepts no
+    /// further call.
     pub(crate) fn keep(
         &self,
         state: &mut State,
@@ -293,7 +310,7 @@ impl Registry {
         self.end_unless(state, kept)
     }
 
-    /// Writes what waits to be written, and says whether the record has each call so far.
+    /// Writes what waits to be written. Errors: the recording lacks a call.
     pub(crate) fn flush(&self, state: &mut State) -> Result<(), Error> {
         let flushed = state.kept.flush();
         self.end_unless(state, flushed)
@@ -306,12 +323,13 @@ impl Registry {
         goes_on
     }
 
-    /// Whether the record has each call, where there is one: what waits is written.
+    /// Writes what waits to be written, if the node records. Errors: the recording lacks a call.
     pub(crate) fn recorded(&self) -> Result<(), Error> {
         self.flush(&mut self.lock())
     }
 
-    // Makes calls that are no passes, and keeps each of them, also where a later one is refused.
+    // Makes calls that are no evaluations, and records each of them, even if a later one is
+    // rejected.
     fn make_several<T>(
         &self,
         state: &mut State,
@@ -328,18 +346,18 @@ impl Registry {
         answer
     }
 
-    // Makes a call that changes which points are set, and shows that.
+    // Makes a call that changes which points are set, and publishes the change.
     fn change<T>(&self, make: impl FnOnce(&mut Node) -> Result<T, Error>) -> Result<T, Error> {
         let mut state = self.lock();
         let answer = self.call(&mut state, make)?;
         let over = self.settings_changed(&mut state);
         drop(state);
-        // Without the lock: what a closure holds may call the registry when it is dropped.
+        // Without the lock: dropping a closure's captures may call the registry.
         drop(over);
         Ok(answer)
     }
 
-    // No setting changes any more: the points do nothing, and no thread is kept waiting.
+    // No configuration changes any more: the points do nothing, and no thread stays paused.
     pub(crate) fn end(&self, state: &mut State) {
         state.is_over = true;
         self.show(state, Some(HashSet::new()));
@@ -353,11 +371,12 @@ impl Registry {
         }
     }
 
-    // Shows which points are set after a change; answers the callbacks that are over by it.
+    // Publishes which points are set after a change. Returns the callbacks that ended with it.
     pub(crate) fn settings_changed(&self, state: &mut State) -> Vec<Callback> {
         let list = state.node.list().ok();
         state.kept.learn(list.as_deref());
-        // Of a node whose points do nothing any more, or not yet, none is shown, whatever it learns.
+        // If the node's points do nothing any more, or not yet, it publishes none, whatever it
+        // learns.
         let names = match state.is_over || state.waits {
             true => Some(HashSet::new()),
             false => list.map(|list| names_in(&list)),
@@ -367,19 +386,26 @@ impl Registry {
         state.callbacks_over()
     }
 
-    /// Sets a point to an action text, as `20%3*print(hi)->off`: terms with `->` between, of which
-    /// a pass takes the first whose turn it is. A term is `[p%][n*]task[(argument)]`: a chance, how
-    /// often it may run on all nodes together, and one of the tasks `off`, `return`, `sleep`,
+    /// Sets a point to an action string, such as `20%3*print(hi)->off`: terms joined by `->`, of
+    /// which an evaluation runs the first that is due. A term is `[p%][n*]action[(argument)]`: a
+    /// chance, a count for all nodes together, and one of the actions `off`, `return`, `sleep`,
     /// `panic`, `print`, `pause`, `yield` and `delay`.
+    ///
+    /// # Errors
+    /// [`BadName`](ErrorKind::BadName), [`BadText`](ErrorKind::BadText),
+    /// [`TooManyPoints`](ErrorKind::TooManyPoints), or [`NumberFull`](ErrorKind::NumberFull).
     pub fn set(&self, name: &str, actions: &str) -> Result<Stamp, Error> {
         let set = self.change(|node| node.set(name, actions));
         set.map_err(|error| error.at_point(name))
     }
 
-    /// Sets a point to a call of this closure, in place of a task: a thread that passes the point
-    /// by `fail_point!` or [`eval`](Registry::eval) calls it, without a lock. It is a closure of
-    /// this process: to other nodes, and to [`pass`](Registry::pass), the point is set to `off`.
-    /// Another setting of the point ends it.
+    /// Sets a point to a closure instead of an action: a thread that evaluates the point by
+    /// `fail_point!` or [`eval`](Registry::eval) calls it, without a lock. The closure belongs to
+    /// this process: for other nodes, and for [`pass`](Registry::pass), the point is set to `off`.
+    /// The next configuration of the point ends it.
+    ///
+    /// # Errors
+    /// Those of [`set`](Registry::set).
     pub fn set_callback(
         &self,
         name: &str,
@@ -397,12 +423,20 @@ impl Registry {
     }
 
     /// Removes a point.
+    ///
+    /// # Errors
+    /// [`BadName`](ErrorKind::BadName), [`TooManyPoints`](ErrorKind::TooManyPoints), or
+    /// [`NumberFull`](ErrorKind::NumberFull).
     pub fn remove(&self, name: &str) -> Result<Stamp, Error> {
         let removed = self.change(|node| node.remove(name));
         removed.map_err(|error| error.at_point(name))
     }
 
-    /// Sets the points of a text `name=actions;name=actions`, all or none; answers how many.
+    /// Sets the points of a string `name=actions;name=actions`, all or none. Returns the number of
+    /// its entries.
+    ///
+    /// # Errors
+    /// Those of [`set`](Registry::set).
     pub fn load(&self, text: &str) -> Result<u16, Error> {
         self.load_bytes(text.as_bytes())
     }
@@ -411,7 +445,10 @@ impl Registry {
         self.change(|node| node.load(text))
     }
 
-    /// Loads the variable FAILPOINTS of the environment, if it is there.
+    /// Loads the environment variable FAILPOINTS, if it is set. Returns the number of its entries.
+    ///
+    /// # Errors
+    /// Those of [`set`](Registry::set).
     pub fn load_env(&self) -> Result<u16, Error> {
         match std::env::var_os("FAILPOINTS") {
             Some(text) => self
@@ -421,7 +458,7 @@ impl Registry {
         }
     }
 
-    /// The same for a node that begins: one that goes on from its part has its points.
+    /// Loads FAILPOINTS, unless the node resumed from its journal, which has its points.
     pub(crate) fn begin_with_env(&self) -> Result<(), Error> {
         match self.goes_on {
             true => Ok(()),
@@ -429,9 +466,9 @@ impl Registry {
         }
     }
 
-    /// Removes all points. A cluster of one node that keeps no receipts begins anew: with all of
-    /// its cap and its names, and without the memory that it took. A registry that is closed stays
-    /// so.
+    /// Removes all points. The node of a one-node cluster that records nothing restarts: with its
+    /// whole call limit, all its names, and without the memory that it used. A closed registry
+    /// stays closed.
     pub(crate) fn clear(&self) -> Result<(), Error> {
         let mut state = self.lock();
         if state.node.is_closed() {
@@ -468,7 +505,10 @@ impl Registry {
         }
     }
 
-    /// Passes a point, set or not, and leaves its task to the caller.
+    /// Evaluates a point, set or not, and leaves its action to the caller.
+    ///
+    /// # Errors
+    /// [`BadName`](ErrorKind::BadName).
     pub fn pass(&self, name: &str) -> Result<Passed, Error> {
         let passed = self.pass_in(&mut self.lock(), name, |node| node.pass(name));
         passed.map_err(|error| error.at_point(name))
@@ -485,62 +525,90 @@ impl Registry {
         })
     }
 
-    /// Whether a point is set. That is no pass.
+    /// Returns whether a point is set. This is no evaluation.
     pub fn is_set(&self, name: &str) -> bool {
         self.shown.may_be_set(name) && self.lock().is_set(name)
     }
 
-    /// Moves rights of a counted term, by its number from 0, to another node, which can spend them
-    /// once it has heard of it. Answers how many went there in all, under the setting.
+    /// Transfers rights of a counted term, by its number from 0, to another node, which can use
+    /// them when it has received a message that shows the transfer. Returns the total transferred
+    /// there under this configuration.
+    ///
+    /// # Errors
+    /// [`BadName`](ErrorKind::BadName), [`NotSet`](ErrorKind::NotSet),
+    /// [`BadArgument`](ErrorKind::BadArgument), [`TooFewRights`](ErrorKind::TooFewRights), or
+    /// [`NumberFull`](ErrorKind::NumberFull).
     pub fn shift(&self, name: &str, term: u8, to: u8, amount: u64) -> Result<u64, Error> {
         let make = |node: &mut Node| node.shift(name, term, to, amount);
         let total = self.call(&mut self.lock(), make);
         total.map_err(|error| error.at_point(name))
     }
 
-    /// Gives the node rights beyond the count. Answers how many in all, under the setting.
+    /// Adds rights beyond the count at this node. Returns the total granted here under this
+    /// configuration.
+    ///
+    /// # Errors
+    /// [`BadName`](ErrorKind::BadName), [`NotSet`](ErrorKind::NotSet),
+    /// [`BadArgument`](ErrorKind::BadArgument), or [`NumberFull`](ErrorKind::NumberFull).
     pub fn grant(&self, name: &str, term: u8, amount: u64) -> Result<u64, Error> {
         let make = |node: &mut Node| node.grant(name, term, amount);
         let total = self.call(&mut self.lock(), make);
         total.map_err(|error| error.at_point(name))
     }
 
-    /// Deals the rights that the node has to a point out: each other node gets an equal share, the first
-    /// ones behind this node one more where some are left over, and the node keeps its own. Answers how
-    /// many it keeps, of all terms. Where the cap leaves no room for all the shifts, none is made; where
-    /// memory is refused, those before are made.
+    /// Divides the node's rights to a point evenly among all nodes: each other node gets an equal
+    /// share, the nodes that follow this one get one more if some are left over, and this node
+    /// keeps its own share. Returns how many it keeps, of all terms. If the call limit leaves no
+    /// room for all transfers, none is made; if an allocation fails, the transfers before that are
+    /// made.
+    ///
+    /// # Errors
+    /// [`BadName`](ErrorKind::BadName), [`NotSet`](ErrorKind::NotSet), or
+    /// [`NumberFull`](ErrorKind::NumberFull).
     pub fn spread(&self, name: &str) -> Result<u64, Error> {
         let kept = self.make_several(&mut self.lock(), |node| node.spread(name));
         kept.map_err(|error| error.at_point(name))
     }
 
-    /// Sets a point, as [`set`](Registry::set) does, and deals the rights to it out at once, as
-    /// [`spread`](Registry::spread) does: no pass comes between. The cap leaves room for that and for a
-    /// shift of each of 16 terms to each other node, or nothing is done.
+    /// Sets a point, as [`set`](Registry::set) does, and divides its rights evenly, as
+    /// [`spread`](Registry::spread) does; no evaluation comes between. The call limit must leave
+    /// room for both, with a transfer of each of 16 terms to each other node, or nothing is done.
+    ///
+    /// # Errors
+    /// Those of [`set`](Registry::set).
     pub fn set_spread(&self, name: &str, actions: &str) -> Result<Stamp, Error> {
         let mut state = self.lock();
         let set = self.make_several(&mut state, |node| node.set_spread(name, actions));
         let over = self.settings_changed(&mut state);
         drop(state);
-        // Without the lock: what a closure holds may call the registry when it is dropped.
+        // Without the lock: dropping a closure's captures may call the registry.
         drop(over);
         set.map_err(|error| error.at_point(name))
     }
 
-    /// Moves rights of the node to where passes happen: to nodes that passed since the last call and
-    /// have no right, as far as this node knows. Who passed in the last ten rounds keeps one. Answers how
-    /// many shifts it made. A program that carries messages itself calls it before each round of them;
-    /// one that has [`gossip`](crate::gossip) asks that to ([`Gossip::share`](crate::Gossip::share)).
+    /// Moves spare rights of this node to nodes that ran out: nodes that evaluated since the last
+    /// call and have no right, as far as this node knows. A node that evaluated in the last ten
+    /// rounds keeps one. Returns the number of transfers. A program with a transport of its own
+    /// calls it before each round of messages; with [`gossip`](crate::gossip), use
+    /// [`Gossip::share`](crate::Gossip::share) instead.
     pub fn share(&self) -> Result<u64, Error> {
         self.make_several(&mut self.lock(), Node::share)
     }
 
-    /// A message to another node, which tells what that one isn't known to have.
+    /// Makes a message to another node, with the changes that it isn't known to have.
+    ///
+    /// # Errors
+    /// [`BadArgument`](ErrorKind::BadArgument).
     pub fn emit(&self, to: u8) -> Result<Vec<u8>, Error> {
         self.carry(&mut self.lock(), |node| node.emit(to))
     }
 
-    /// Takes in a message of another node; answers whether this one learnt anything.
+    /// Accepts a message from another node. Returns whether this one learned anything.
+    ///
+    /// # Errors
+    /// [`BadMessage`](ErrorKind::BadMessage), [`WrongReceiver`](ErrorKind::WrongReceiver),
+    /// [`Forgotten`](ErrorKind::Forgotten), [`Overspent`](ErrorKind::Overspent), or
+    /// [`TooManyPoints`](ErrorKind::TooManyPoints).
     pub fn deliver(&self, message: &[u8]) -> Result<bool, Error> {
         let mut state = self.lock();
         let made = self.carry(&mut state, |node| node.deliver(message));
@@ -555,8 +623,8 @@ impl Registry {
         made
     }
 
-    /// Does what is to be done where a message is refused since others know more of this node than it
-    /// does. The lock isn't held: a closure may call the registry.
+    /// Applies `on_forgotten` to a message that was rejected because others know more of this node
+    /// than it does. Call it without the lock: a closure may call the registry.
     pub(crate) fn meet_forgotten(&self, error: &Error) {
         if error.kind() != ErrorKind::Forgotten {
             return;
@@ -584,12 +652,12 @@ impl Registry {
         );
     }
 
-    /// The points that are set, as a text for `load`.
+    /// Returns the points that are set, as a FAILPOINTS string for [`load`](Registry::load).
     pub fn list(&self) -> Result<String, Error> {
         self.lock().node.list()
     }
 
-    /// The points that are set, with their action texts, or `callback`.
+    /// Returns the points that are set, each with its action string, or `callback`.
     pub(crate) fn points(&self) -> Vec<(String, String)> {
         let state = &mut *self.lock();
         let list = state.node.list().unwrap_or_default();
@@ -602,46 +670,48 @@ impl Registry {
             .collect()
     }
 
-    /// How often a term ran at all nodes under the setting, as far as this node knows.
+    /// Returns how often a term ran on all nodes under this configuration, as far as this node
+    /// knows.
     pub fn spent(&self, name: &str, term: u8) -> Result<u128, Error> {
         let spent = self.lock().node.spent(name, term);
         spent.map_err(|error| error.at_point(name))
     }
 
-    /// How often a point was passed at all nodes while it was set, as far as this node knows.
+    /// Returns how often a point was evaluated on all nodes while it was set, as far as this node
+    /// knows.
     pub fn hits(&self, name: &str) -> Result<u128, Error> {
         let hits = self.lock().node.hits(name);
         hits.map_err(|error| error.at_point(name))
     }
 
-    /// The rights that node `of` has left of a counted term, as far as this node knows.
+    /// Returns the rights that node `of` has left of a counted term, as far as this node knows.
     pub fn rights(&self, name: &str, term: u8, of: u8) -> Result<i64, Error> {
         let rights = self.lock().node.rights(name, term, of);
         rights.map_err(|error| error.at_point(name))
     }
 
-    /// How many accepted calls changed what the node knows.
+    /// Returns how many accepted calls changed what the node knows.
     pub fn version(&self) -> Result<u64, Error> {
         self.lock().node.version()
     }
 
-    /// The version of another node that this one has all of.
+    /// Returns the version of another node that this node has everything of.
     pub fn known(&self, from: u8) -> Result<u64, Error> {
         self.lock().node.known(from)
     }
 
-    /// The version of this node that another one said it has.
+    /// Returns the version of this node that another one acknowledged.
     pub fn acked(&self, to: u8) -> Result<u64, Error> {
         self.lock().node.acked(to)
     }
 
-    /// How many calls the node has accepted, of those that its cap allows.
+    /// Returns how many calls the node has accepted of its call limit.
     pub fn calls(&self) -> Result<u64, Error> {
         self.lock().node.calls()
     }
 
-    /// Ends the node and gives its memory back, and its part, which may be opened again. The points do
-    /// nothing from then on, threads that pause go on, and calls are refused as
+    /// Closes the node, frees its memory, and closes its journal, which may then be opened again.
+    /// From then on the points do nothing, paused threads continue, and calls return
     /// [`ErrorKind::Closed`].
     pub fn close(&self) {
         let mut state = self.lock();
@@ -654,8 +724,7 @@ impl Registry {
     }
 }
 
-// A panic of a task, or of a closure that a pass calls, comes without the lock: no call is left
-// half done by it.
+// An action or a closure panics without the lock: no call is left half done.
 impl UnwindSafe for Registry {}
 impl RefUnwindSafe for Registry {}
 
@@ -669,23 +738,26 @@ impl fmt::Debug for Registry {
     }
 }
 
-/// Writes what the nodes of a cluster did and told their callers as a drill, which `failreg audit`
-/// reads: all nodes, in the order of their numbers, each of them recording since it was opened
-/// ([`Builder::recording`]). The trace of a node is put together from its receipts.
+/// Writes a recording of a cluster, which `failreg audit` reads: of all its nodes, in the order of
+/// their numbers, each recording receipts since it was opened ([`Builder::recording`]).
+///
+/// # Errors
+/// Those of `out`, and [`InvalidInput`](io::ErrorKind::InvalidInput) for registries that aren't all
+/// nodes of one cluster or don't record.
 pub fn write_drill(registries: &[&Registry], out: &mut impl Write) -> io::Result<()> {
     let nodes = registries.len();
     let in_order =
         |(n, it): (usize, &&Registry)| (n, nodes) == (it.made.number.into(), it.made.nodes.into());
     if !registries.iter().enumerate().all(in_order) {
         return Err(not_a_cluster(
-            "a drill takes all nodes of a cluster, in their order",
+            "a recording takes all nodes of one cluster, in the order of their numbers",
         ));
     }
     let states: Vec<_> = registries.iter().map(|registry| registry.lock()).collect();
     let recorded: Option<Vec<_>> = states.iter().map(|state| state.kept.receipts()).collect();
     match recorded {
         Some(recorded) => receipts::write(&recorded, out),
-        None => Err(not_a_cluster("a drill takes nodes that are recording")),
+        None => Err(not_a_cluster("a recording takes nodes that record")),
     }
 }
 

@@ -21,46 +21,46 @@ use std::time::{Duration, Instant};
 /// How many clients are served at once; the next one waits until one of them is gone.
 const CLIENTS: usize = 64;
 
-/// How many of them may have a body that is longer than this, in bytes: it bounds the memory.
+/// How many of them may have a longer body than this, in bytes, which limits memory.
 const LONG_BODIES: usize = 4;
 const LONG: usize = 65_536;
 
-/// How long clients that are being served have when the service ends.
+/// How long current clients have when the service ends.
 const LAST_TIME: Duration = Duration::from_secs(2);
 
-/// How long to rest where the system has no socket for a client, or for the end of the service.
+/// How long to pause if the system has no socket for a client, or for the end of the service.
 const REST: Duration = Duration::from_millis(10);
 
-/// A service: who is served, where.
+/// A service: its registry, address and clients.
 struct Service {
     addr: SocketAddr,
-    /// What a client has to have, if anything.
+    /// The key that a client must present, if there is one.
     key: Option<Key>,
-    /// Guards who is served, and what the service does.
+    /// Guards the clients, and the state of the service.
     clients: Mutex<Clients>,
-    /// Told of each change of what the lock guards.
+    /// Notified of each change of what the lock guards.
     changed: Condvar,
 }
 
 /// What the lock of a service guards.
 #[derive(Default)]
 struct Clients {
-    /// Their connections, by a number that no other client has.
+    /// Their connections, by a unique number.
     streams: HashMap<u64, Arc<TcpStream>>,
     next: u64,
     /// How many of them have a long body.
     long_bodies: usize,
-    /// Whether no client is let in any more.
+    /// Whether no client is accepted any more.
     is_over: bool,
-    /// Whether no client is waited for any more.
+    /// Whether the service doesn't wait for clients any more.
     is_cut: bool,
-    /// Whether nobody accepts clients any more.
+    /// Whether the accepting thread has ended.
     is_deaf: bool,
 }
 
 impl Service {
     fn lock(&self) -> MutexGuard<'_, Clients> {
-        // Each holder leaves the clients whole, also by a panic.
+        // Every holder leaves the clients consistent, even after a panic.
         self.clients
             .lock()
             .unwrap_or_else(|poisoned| poisoned.into_inner())
@@ -71,7 +71,7 @@ impl Service {
         self.changed.notify_all();
     }
 
-    // Waits until this holds no more, or for so long.
+    // Waits until the condition is false, or the time is over.
     fn wait_while(
         &self,
         time: Duration,
@@ -83,7 +83,7 @@ impl Service {
         waited.unwrap_or_else(|poisoned| poisoned.into_inner()).0
     }
 
-    // Waits for a place; answers whether the service goes on.
+    // Waits for a place. Returns whether the service continues.
     fn has_place(&self) -> bool {
         let waited = self.changed.wait_while(self.lock(), |clients| {
             clients.streams.len() >= CLIENTS && !clients.is_over
@@ -93,7 +93,7 @@ impl Service {
             .is_over
     }
 
-    // Lets a client in, while the service goes on.
+    // Accepts a client, if the service continues.
     fn enter(&self, stream: TcpStream) -> Option<Client<'_>> {
         let stream = Arc::new(stream);
         let mut clients = self.lock();
@@ -111,7 +111,7 @@ impl Service {
     }
 }
 
-/// A client that is being served, and has a place until this is dropped.
+/// A client that is being served; its place is free again when this is dropped.
 struct Client<'a> {
     service: &'a Service,
     number: u64,
@@ -157,7 +157,7 @@ impl<'a> Client<'a> {
         }
     }
 
-    // Reads the request and asks for it: its head and the reply.
+    // Reads the request and carries it out. Returns its head and the response.
     fn read(
         &self,
         connection: &mut Connection<'_>,
@@ -189,7 +189,7 @@ impl<'a> Client<'a> {
     }
 }
 
-// The reply where the operator's page is, which isn't asked of the node.
+// Returns the response with the browser UI, which needs nothing of the node.
 fn page_reply(head: &Head) -> Option<Reply> {
     let (status, text) = match (&head.path[..], &head.method[..]) {
         ("/", "GET") => (200, PAGE),
@@ -210,7 +210,7 @@ fn answered(registry: &Registry, head: &Head, body: &[u8]) -> Reply {
     })
 }
 
-// Lets a client in and serves it, in a thread of its own. Answers whether the service goes on.
+// Accepts a client and serves it in a thread of its own. Returns whether the service continues.
 fn welcome<'s>(
     scope: &'s Scope<'s, '_>,
     registry: &'s Registry,
@@ -218,7 +218,7 @@ fn welcome<'s>(
     accepted: io::Result<(TcpStream, SocketAddr)>,
 ) -> bool {
     let Ok((stream, _)) = accepted else {
-        // As where the process has no descriptor left.
+        // For example, the process has no file descriptor left.
         thread::sleep(REST);
         return true;
     };
@@ -226,17 +226,17 @@ fn welcome<'s>(
         return false;
     };
     let serve = move || {
-        // A panic, as of what a closure holds when it is dropped, ends this client alone.
+        // A panic, for example when a closure's captures are dropped, ends only this client.
         let served = AssertUnwindSafe(|| client.serve(registry));
         drop(catch_unwind(served));
     };
     let named = thread::Builder::new().name("failreg-client".into());
-    // Where there is no thread, the client goes with what it would have run.
+    // If there is no thread, the client is dropped with what it would have run.
     drop(named.spawn_scoped(scope, serve));
     true
 }
 
-// Serves clients until the service is over, and ends when the last one is gone.
+// Serves clients until the service is over, and returns when the last one is gone.
 fn accept_all(registry: &Registry, service: &Service, listener: TcpListener) {
     thread::scope(|scope| {
         while service.has_place() && welcome(scope, registry, service, listener.accept()) {}
@@ -245,7 +245,7 @@ fn accept_all(registry: &Registry, service: &Service, listener: TcpListener) {
     });
 }
 
-/// A registry that is being served. The service ends when this is dropped.
+/// The HTTP service of a registry. A drop ends it.
 #[must_use = "the service ends when it is dropped: keep it as long as clients may come"]
 pub struct Serving {
     service: Arc<Service>,
@@ -253,13 +253,13 @@ pub struct Serving {
 }
 
 impl Serving {
-    /// Where clients can connect: with the port that the system took, where 0 was asked for.
+    /// Returns the address to connect to, with the port that the system picked if 0 was requested.
     pub fn addr(&self) -> SocketAddr {
         self.service.addr
     }
 
-    /// Ends the service, as a drop does: no client is let in any more, those that are being served
-    /// are answered, for 2 seconds at most, and all threads of the service are joined.
+    /// Ends the service, as a drop does: it accepts no client, gives current requests 2 seconds,
+    /// and joins all its threads.
     pub fn stop(mut self) {
         self.end();
     }
@@ -271,17 +271,17 @@ impl Serving {
         let service = &self.service;
         service.change(|clients| clients.is_over = true);
         while !service.wait_while(REST, |clients| !clients.is_deaf).is_deaf {
-            // The thread may wait for a client, and is woken by one.
+            // The thread may be waiting for a client, which wakes it up.
             drop(TcpStream::connect_timeout(&service.addr, REST));
         }
         let waited = service.wait_while(LAST_TIME, |clients| !clients.streams.is_empty());
         for stream in waited.streams.values() {
-            // It fails where the client is gone.
+            // It fails if the client is gone.
             drop(stream.shutdown(Shutdown::Both));
         }
         drop(waited);
         service.change(|clients| clients.is_cut = true);
-        // It panics nowhere: what a client's thread panics by is caught there.
+        // It never panics: panics of a client's thread are caught there.
         drop(thread.join());
     }
 }
@@ -300,8 +300,8 @@ impl fmt::Debug for Serving {
     }
 }
 
-/// A registry that was made to be served ([`Builder::listen`](crate::Builder::listen)). The service
-/// ends when this is dropped.
+/// A registry that was opened to be served ([`Builder::listen`](crate::Builder::listen)). A drop
+/// ends the service.
 #[derive(Debug)]
 #[must_use = "the service ends when it is dropped: keep it as long as clients may come"]
 pub struct Served {
@@ -310,12 +310,12 @@ pub struct Served {
 }
 
 impl Served {
-    /// The registry, also for [`gossip`](crate::gossip).
+    /// Returns the registry, also for [`gossip`](crate::gossip).
     pub fn registry(&self) -> &Arc<Registry> {
         &self.registry
     }
 
-    /// The service.
+    /// Returns the service.
     pub fn serving(&self) -> &Serving {
         &self.serving
     }
@@ -339,7 +339,7 @@ pub(crate) fn has_to_have_failpoints() -> Result<(), Error> {
     }
 }
 
-/// That an address needs a key.
+/// Returns the error of an address that needs a key.
 pub(crate) fn not_local(addr: &SocketAddr) -> Error {
     let fault = format!(
         "{} can be reached by other machines, and there is no key",
@@ -348,7 +348,7 @@ pub(crate) fn not_local(addr: &SocketAddr) -> Error {
     Error::new(ErrorKind::NotLocal, fault)
 }
 
-/// Binds an address, which is one of this machine alone, or there is a key.
+/// Binds an address: a loopback address, unless there is a key.
 pub(crate) fn listen(
     addr: impl ToSocketAddrs + fmt::Debug,
     has_key: bool,
@@ -391,7 +391,7 @@ pub(crate) fn serve_at(
     })
 }
 
-/// Serves a registry over HTTP, in threads of its own, until the answer is dropped:
+/// Serves a registry over HTTP, in threads of its own, until the result is dropped:
 ///
 /// ```
 /// # if failreg::has_failpoints() {
@@ -405,28 +405,26 @@ pub(crate) fn serve_at(
 /// # Ok::<(), failreg::Error>(())
 /// ```
 ///
-/// The registry is an `Arc<Registry>`, or the program's, a `&'static Registry`. What requests there
-/// are, and what each is answered, [`Registry::answer`] says; besides, `GET /` is answered the page
-/// on which an operator sees the node and changes its points, and the status has an `ETag`: who has
-/// it in `If-None-Match` is answered 304 and no body, until the status is another one.
+/// The registry is an `Arc<Registry>`, or the program's `&'static Registry`. [`Registry::answer`]
+/// lists the requests and their responses. In addition, `GET /` returns the browser UI, and the
+/// status has an `ETag`: a client that sends it in `If-None-Match` gets 304 without a body until
+/// the status changes.
 ///
-/// Without a key the address is one of this machine alone, and whoever can connect there may set
-/// points. A page of a browser may not: a request whose `Host` isn't this machine, or that has an
-/// `Origin` other than the service itself, is answered 403, and nothing is asked. With a key
-/// ([`Builder::key_file`](crate::Builder::key_file)) the address may be one that other machines
-/// reach, `Host` may be any name, and an `Origin` the page of that name; and a request that doesn't
-/// have the key is answered 401 once its head is read: nothing is asked, and nothing of its body is
-/// looked at. The page alone comes
-/// without it: nothing of the node is in it, and it asks for the key.
+/// Without a key the address must be a loopback address, and every local process may set points. A
+/// browser page may not: a request whose `Host` isn't this machine, or whose `Origin` isn't the
+/// service itself, gets 403, and nothing happens. With a key
+/// ([`Builder::key_file`](crate::Builder::key_file)) other machines may reach the address, `Host`
+/// may be any name, and `Origin` the page of that name. A request without the key gets 401 after
+/// its head: nothing happens, and its body isn't read. Only the page itself needs no key: it has no
+/// data of the node, and asks for the key.
 ///
-/// A connection has one request, whose head has at most 8,192 bytes, 2 seconds for the head and 10
-/// in all. 64 clients are served at once, 4 of them with a body of more than 65,536 bytes; the next
-/// ones wait. The lock of the registry is held for a call alone, and never while something is read
-/// or sent.
+/// A connection carries one request, with a head of at most 8 KiB; the client has 2 seconds for the
+/// head and 10 in total. 64 clients are served at once, 4 of them with a body over 64 KiB; the next
+/// ones wait. The registry's lock is held only during a call, never while data is received or sent.
 ///
 /// # Errors
-/// [`NotLocal`](ErrorKind::NotLocal), [`CantListen`](ErrorKind::CantListen), as where another
-/// process listens there, [`NoThread`](ErrorKind::NoThread), or
+/// [`NotLocal`](ErrorKind::NotLocal); [`CantListen`](ErrorKind::CantListen), for example because
+/// another process listens there; [`NoThread`](ErrorKind::NoThread), or
 /// [`Disabled`](ErrorKind::Disabled).
 pub fn serve(
     registry: impl Deref<Target = Registry> + Send + 'static,

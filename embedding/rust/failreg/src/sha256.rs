@@ -1,11 +1,11 @@
-//! SHA-256, as FIPS 180-4 has it: this crate stands on no crate that has it.
+//! SHA-256 (FIPS 180-4): this crate has no dependency that provides it.
 
-/// The first bits behind the point of the square roots of the first 8 primes.
+/// The first fractional bits of the square roots of the first 8 primes.
 const START: [u32; 8] = [
     0x6a09e667, 0xbb67ae85, 0x3c6ef372, 0xa54ff53a, 0x510e527f, 0x9b05688c, 0x1f83d9ab, 0x5be0cd19,
 ];
 
-/// Those of the cube roots of the first 64.
+/// The first fractional bits of the cube roots of the first 64 primes.
 const ROOTS: [u32; 64] = [
     0x428a2f98, 0x71374491, 0xb5c0fbcf, 0xe9b5dba5, 0x3956c25b, 0x59f111f1, 0x923f82a4, 0xab1c5ed5,
     0xd807aa98, 0x12835b01, 0x243185be, 0x550c7dc3, 0x72be5d74, 0x80deb1fe, 0x9bdc06a7, 0xc19bf174,
@@ -17,14 +17,14 @@ const ROOTS: [u32; 64] = [
     0x748f82ee, 0x78a5636f, 0x84c87814, 0x8cc70208, 0x90befffa, 0xa4506ceb, 0xbef9a3f7, 0xc67178f2,
 ];
 
-/// The digest of these bytes.
+/// Returns the digest of these bytes.
 pub(crate) fn sha256(bytes: &[u8]) -> [u8; 32] {
     let (blocks, rest) = bytes.as_chunks();
     let mut state = START;
     for block in blocks {
         take_in(&mut state, block);
     }
-    // The rest, a bit that ends it, and how many bits there were: all of it takes a block or two.
+    // The rest, an end bit, and the number of bits: one or two blocks.
     let mut last = [0; 128];
     last[..rest.len()].copy_from_slice(rest);
     last[rest.len()] = 0x80;
@@ -58,7 +58,7 @@ fn take_in(state: &mut [u32; 8], block: &[u8; 64]) {
     }
 }
 
-// The words of a block, and what they come to for the later rounds.
+// The words of a block, extended for the later rounds.
 fn schedule(block: &[u8; 64]) -> [u32; 64] {
     let mut words = [0; 64];
     for (word, bytes) in words.iter_mut().zip(block.as_chunks().0) {
@@ -83,7 +83,7 @@ mod tests {
         digest.iter().map(|byte| format!("{byte:02x}")).collect()
     }
 
-    // Those that NIST gives with the standard.
+    // The examples that NIST publishes with the standard.
     #[test]
     fn examples_have_their_digests() {
         let two_blocks = "abcdefghbcdefghicdefghijdefghijkefghijklfghijklmghijklmn\
@@ -114,7 +114,7 @@ mod tests {
         }
     }
 
-    // Wanted is what Python's hashlib makes of 0 to 130 bytes, which end at each place of a block.
+    // The digests of Python's hashlib for 0 to 130 bytes, which end at each position of a block.
     #[test]
     fn each_length_has_its_digest() {
         let digests: Vec<u8> = (0..=130)

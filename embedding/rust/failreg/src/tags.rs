@@ -1,26 +1,26 @@
-//! Tags of bodies, by which a client that has a body already needn't be sent it.
+//! Tags of bodies (`ETag`), so that a client isn't sent a body that it has.
 
 use crate::sha256::sha256;
 use std::fmt::Write;
 
-/// The tag of a body: its SHA-256 in hex digits, between quotes.
+/// Returns the tag of a body: its SHA-256 in hex digits, between quotes.
 pub(crate) fn tag_of(body: &[u8]) -> String {
     let mut tag = String::from('"');
     for byte in sha256(body) {
-        // A `String` takes what is written.
+        // Writing to a `String` can't fail.
         let _ = write!(tag, "{byte:02x}");
     }
     tag.push('"');
     tag
 }
 
-/// Whether a value of `If-None-Match` says that the client has the body with this tag.
+/// Returns whether a value of `If-None-Match` contains this tag.
 pub(crate) fn is_in(tag: &str, list: &[u8]) -> bool {
     list.split(|byte| matches!(byte, b',' | b' ' | b'\t'))
         .any(|word| stands_for(word, tag.as_bytes()))
 }
 
-// Whether a word of a list is a tag, or one that says as much of its body, or any tag.
+// Returns whether a word of a list is this tag, its weak form, or `*`.
 fn stands_for(word: &[u8], tag: &[u8]) -> bool {
     word == tag || word.strip_prefix(b"W/") == Some(tag) || word == b"*"
 }

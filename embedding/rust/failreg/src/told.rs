@@ -1,55 +1,56 @@
-//! What a node tells: stamps, tasks, and what a pass came to.
+//! Results of a node: versions, actions and evaluations.
 
 use std::time::Duration;
 
-/// The clock of a setting and the node that made it: no two settings of a cluster have one stamp.
+/// A version: the clock of a configuration and the node that made it. No two configurations of a
+/// cluster have the same one.
 #[derive(Clone, Copy, Debug, PartialEq, Eq, Hash)]
 pub struct Stamp {
-    /// The clock of the setting.
+    /// The clock of the configuration.
     pub clock: u64,
     /// The node that made it.
     pub node: u8,
 }
 
-/// What a term that was triggered asks for.
+/// The action of a term that fires.
 #[derive(Clone, Debug, PartialEq, Eq)]
 #[non_exhaustive]
 pub enum Task {
     /// Do nothing.
     Off,
-    /// Leave the function, with the argument, if one is given.
+    /// Return from the function, with the argument, if there is one.
     Return(Option<String>),
-    /// Sleep for so long.
+    /// Sleep for this long.
     Sleep(Duration),
-    /// Panic, with the text, if one is given.
+    /// Panic, with the text, if there is one.
     Panic(Option<String>),
-    /// Print the text, if one is given, to standard error.
+    /// Print the text, if there is one, on standard error.
     Print(Option<String>),
-    /// Wait until the point isn't set under the stamp of the pass any more.
+    /// Wait until the point isn't set under the evaluation's version any more.
     Pause,
     /// Let other threads run.
     Yield,
-    /// Keep busy for so long.
+    /// Keep the processor busy for this long.
     Delay(Duration),
 }
 
-/// What a pass came to.
+/// The result of an evaluation.
 #[derive(Clone, Debug, PartialEq, Eq)]
 pub enum Passed {
     /// The point isn't set here.
     Unset,
-    /// It is set, and no term's turn came.
+    /// The point is set, and no term fires.
     NoTerm {
-        /// That of the setting.
+        /// The version of the configuration.
         stamp: Stamp,
     },
-    /// A term was triggered.
+    /// A term fires.
     Act {
-        /// That of the setting.
+        /// The version of the configuration.
         stamp: Stamp,
-        /// Which term, numbered from 0.
+        /// The number of the term, from 0.
         term: u8,
-        /// What it asks for.
+        /// Its action.
         task: Task,
     },
 }

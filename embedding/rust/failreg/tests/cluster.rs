@@ -271,7 +271,7 @@ fn a_refused_pass_may_panic_or_say_nothing() {
         node
     };
     let told = panics_with(|| runs(&open(OnRefusal::Panic), 1) as u32);
-    let begin = "failreg: a pass was refused: point \"p\": N1 TraceFull: ";
+    let begin = "failreg: an evaluation was rejected: point \"p\": N1 TraceFull: ";
     let end = "; its failpoints do nothing from now on";
     assert!(told.starts_with(begin) && told.ends_with(end), "{told}");
     assert_eq!(runs(&open(OnRefusal::Ignore), 9), 0);

@@ -97,17 +97,17 @@ const BAD_VALUES: [(&str, &str, &str); 10] = [
     (
         "FAILREG_NODE",
         "3/3",
-        "BadVariable FAILREG_NODE=\"3/3\": wanted is ",
+        "BadVariable FAILREG_NODE=\"3/3\": expected ",
     ),
     (
         "FAILREG_CAP",
         "1e6",
-        "BadVariable FAILREG_CAP=\"1e6\": wanted is ",
+        "BadVariable FAILREG_CAP=\"1e6\": expected ",
     ),
     (
         "FAILREG_LISTEN",
         "",
-        "BadVariable FAILREG_LISTEN=\"\": wanted is ",
+        "BadVariable FAILREG_LISTEN=\"\": expected ",
     ),
     (
         "FAILREG_LISTEN",

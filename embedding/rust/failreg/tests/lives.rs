@@ -213,7 +213,7 @@ fn fill(node: &Arc<Registry>) {
     assert!(node.eval("p").is_none() && node.calls().unwrap() == made);
     let why = node.set("q", "off").unwrap_err().to_string();
     assert!(
-        why.contains("could not be recorded before (File too large"),
+        why.contains("an earlier call could not be recorded (File too large"),
         "{why}"
     );
     // What only reads goes on, also for clients.

@@ -237,7 +237,7 @@ fn a_line_that_the_node_did_not_write_is_refused_by_its_number() {
     let is_bad = |bytes: &[u8], words: &str| {
         is_refused(builder(), &path, bytes, ErrorKind::BadPart, words);
     };
-    let other = "the node does not answer as it says: ";
+    let other = "replaying the call gives another result: ";
     is_bad(
         &part.replace_in("return(a)", "return(b)"),
         &format!("line 3: {other}"),
