@@ -1,4 +1,4 @@
-/* One failpoint in a program of C: FAILPOINTS='save=2*return->off' loses two orders.
+/* One failpoint in a C program: FAILPOINTS='save=2*return->off' loses two orders.
  *
  *     cc -I embedding examples/orders.c embedding/lib/libfailreg.a -o orders */
 #include "failreg.h"
@@ -6,7 +6,7 @@
 #include <stdlib.h>
 #include <string.h>
 
-/* Whether the point tells the caller to return. Where it isn't set, nothing is passed. */
+/* Returns whether the failpoint fires with `return`. A point that isn't set isn't evaluated. */
 static bool is_failing(failreg *node, const char *name)
 {
     bool is_set;

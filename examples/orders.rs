@@ -1,4 +1,4 @@
-//! One failpoint in a program of Rust: FAILPOINTS='save=2*return->off' loses two orders.
+//! One failpoint in a Rust program: FAILPOINTS='save=2*return->off' loses two orders.
 //!
 //!     cargo run --manifest-path embedding/rust/failreg/Cargo.toml --features failpoints --example orders
 

@@ -1,4 +1,4 @@
-# Which versions this one stands in for: before 1.0 those of its second number that aren't newer.
+# The compatible versions: before 1.0 those with the same second number that aren't newer.
 set(PACKAGE_VERSION "@VERSION@")
 string(REGEX MATCH "^[0-9]+\\.[0-9]+" _failreg_series "${PACKAGE_VERSION}")
 string(REGEX MATCH "^[0-9]+(\\.[0-9]+)?" _failreg_wanted "${PACKAGE_FIND_VERSION}")

@@ -1,5 +1,5 @@
-# find_package(failreg) finds this file, and with it the library that lies in the same place: link
-# failreg::failreg. It may be moved as a whole.
+# find_package(failreg) finds this file, and with it the library in the same folder tree: link
+# failreg::failreg. The tree may be moved as a whole.
 get_filename_component(_failreg_prefix "${CMAKE_CURRENT_LIST_DIR}/../../.." ABSOLUTE)
 
 if(NOT TARGET failreg::failreg)

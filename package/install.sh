@@ -1,11 +1,11 @@
 #!/bin/sh
-# Copies what is in this package to where programs look for it, or takes it away again.
+# Installs the files of this package, or removes them.
 #
-# usage: ./install.sh PREFIX            as /usr/local, or "$HOME/.local"
+# usage: ./install.sh PREFIX            for example /usr/local, or "$HOME/.local"
 #        ./install.sh --remove PREFIX
 #
-# Below PREFIX that is bin, lib, include and share, and the crates of Rust in share/failreg/rust. With DESTDIR in the
-# environment it goes there, for who makes packages of a distribution.
+# They go to bin, lib, include and share below PREFIX, the Rust crates to share/failreg/rust. For packagers: with
+# DESTDIR in the environment they go below that folder.
 set -eu
 here=$(CDPATH='' cd -- "$(dirname -- "$0")" && pwd)
 
@@ -14,10 +14,10 @@ fail() {
     exit "${2:-1}"
 }
 
-# What is installed: the lines of SHA256SUMS name each file of the package.
+# Prints the files of the package, which SHA256SUMS lists.
 files() { sed 's/^[0-9a-f]*  //' "$here/SHA256SUMS"; }
 
-# Where a file of the package goes below PREFIX, or nothing.
+# Prints the place of a file below PREFIX, or nothing if it isn't installed.
 place_of() {
     case $1 in
         bin/* | lib/* | include/* | share/*) echo "$1" ;;
@@ -28,9 +28,9 @@ place_of() {
 link=share/failreg/rust/failreg-sys/lib
 
 install_all() {
-    (cd "$here" && sha256sum --check --quiet SHA256SUMS) || fail "a file isn't what SHA256SUMS says: unpack the package again"
+    (cd "$here" && sha256sum --check --quiet SHA256SUMS) || fail "a file doesn't match SHA256SUMS: unpack the package again"
     mkdir -p "$to" 2>/dev/null || true
-    [ -w "$to" ] || fail "$to can't be written to: take another PREFIX, or install as root"
+    [ -w "$to" ] || fail "cannot write to $to: choose another PREFIX, or install as root"
     files | while IFS= read -r file; do
         place=$(place_of "$file")
         [ -n "$place" ] || continue
@@ -40,12 +40,12 @@ install_all() {
         if [ -x "$here/$file" ]; then chmod 755 "$to/$place"; else chmod 644 "$to/$place"; fi
     done
     ln -sfn ../../../../lib "$to/$link"
-    echo "failreg is installed below $prefix"
+    echo "failreg is installed in $prefix"
     "$here/bin/failreg" --version >/dev/null 2>&1 ||
-        echo "  bin/failreg doesn't run here: it is for Linux of x86_64, with glibc 2.34 or later"
-    case ":$PATH:" in *":$prefix/bin:"*) ;; *) echo "  PATH lacks $prefix/bin" ;; esac
+        echo "  bin/failreg doesn't run here: it needs x86-64 Linux with glibc 2.34 or later"
+    case ":$PATH:" in *":$prefix/bin:"*) ;; *) echo "  add $prefix/bin to PATH" ;; esac
     echo "  Rust: failreg = { path = \"$prefix/share/failreg/rust/failreg\" }"
-    echo "  C: pkg-config --cflags --libs failreg, with PKG_CONFIG_PATH=$prefix/lib/pkgconfig where that is looked for"
+    echo "  C: pkg-config --cflags --libs failreg, if needed with PKG_CONFIG_PATH=$prefix/lib/pkgconfig"
 }
 
 remove_all() {
@@ -55,7 +55,7 @@ remove_all() {
         [ -n "$place" ] || continue
         rm -f "$to/$place"
     done
-    # The folders that are empty now, but PREFIX: rmdir leaves the others.
+    # Removes the empty folders, except PREFIX: rmdir keeps the others.
     files | while IFS= read -r file; do
         place=$(place_of "$file")
         while [ -n "$place" ] && [ "$place" != . ]; do
@@ -63,7 +63,7 @@ remove_all() {
             [ "$place" = . ] || rmdir "$to/$place" 2>/dev/null || break
         done
     done
-    echo "failreg is gone from $prefix"
+    echo "failreg is removed from $prefix"
 }
 
 does=install_all
@@ -74,7 +74,7 @@ fi
 [ $# -eq 1 ] || fail "usage: ./install.sh [--remove] PREFIX" 2
 case $1 in
     /*) prefix=${1%/} ;;
-    -*) fail "$1 isn't known: ./install.sh [--remove] PREFIX" 2 ;;
+    -*) fail "unknown option $1: usage: ./install.sh [--remove] PREFIX" 2 ;;
     *) prefix=$PWD/${1%/} ;;
 esac
 to=${DESTDIR:-}$prefix

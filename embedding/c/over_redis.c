@@ -1,13 +1,13 @@
-/* A node whose messages go through Redis: each node has a list there, its mailbox, into which the others put what they
- * tell it, and from which it takes what came. Any broker is used so. It carries what failreg_emit made, and what came
- * is given to failreg_deliver; it may lose, delay, double and reorder all of it (docs/carriers.md).
+/* A node that sends its messages through Redis: each node has a list there, its mailbox, into which the others put
+ * messages and from which it takes them. Other brokers work in the same way. The program carries what failreg_emit
+ * makes to failreg_deliver; it may lose, delay, duplicate and reorder all of it (docs/how-to/custom-transport.md).
  *
  *     cc -I embedding embedding/c/over_redis.c embedding/lib/libfailreg.a -lhiredis -lpthread -o over_redis
  *     FAILREG_NODE=1/3 FAILREG_RUN=monday FAILREG_REDIS=127.0.0.1:6379 ./over_redis
  *
- * A line of standard input is `save 3`, which saves so many orders, unless the point `save` loses them, or a request,
- * as `PUT /fail/save 5*return(disk full)->off`. The page says what else the environment may have: a password, and what
- * TLS takes. */
+ * A line of standard input is `save 3`, which saves three orders, unless the point `save` loses them, or a request,
+ * such as `PUT /fail/save 5*return(disk full)->off`. The page lists the other environment variables: a password, and
+ * what TLS needs. */
 #define _POSIX_C_SOURCE 200809L
 #include "failreg.h"
 
@@ -27,14 +27,15 @@
 
 enum { MOST_NODES = 32, MOST_MESSAGES = 64, KEPT_SECONDS = 3600, TICK = 50, LONGEST_REST = 5000 };
 
-/* What a peer was told last, for how many milliseconds it is left alone from then on, and still. */
+/* The versions last sent to a peer, and its back-off in milliseconds: the next one, and what is left of the current
+ * one. */
 typedef struct peer {
     uint64_t told_version, told_known;
     int rest, waits;
 } peer;
 
 static failreg node = FAILREG_CLOSED_NODE;
-/* Of the node. Nobody waits for Redis who has it, so no order does. */
+/* Guards the node. No thread holds it while it waits for Redis, so no order waits for Redis. */
 static pthread_mutex_t lock = PTHREAD_MUTEX_INITIALIZER;
 static unsigned number, nodes;
 static const char *address, *run;
@@ -54,7 +55,7 @@ static void must(uint32_t status)
         stop(failreg_strerror(status));
 }
 
-/* What is to be fetched, with a zero behind it. The caller frees it. */
+/* Returns the bytes of failreg_fetch, with a zero after them. The caller frees it. */
 static char *fetched(size_t *length)
 {
     *length = failreg_fetch(&node, "", 0);
@@ -66,7 +67,7 @@ static char *fetched(size_t *length)
     return bytes;
 }
 
-/* What Redis answers. Where it refuses or isn't there, the connection is let go. */
+/* Returns Redis's reply. If it is an error, or there is none, closes the connection. */
 static redisReply *ask(const char *format, ...)
 {
     va_list words;
@@ -90,7 +91,7 @@ static bool is_done(redisReply *reply)
     return reply != NULL;
 }
 
-/* Encrypts the connection, where the environment asks for that. */
+/* Encrypts the connection, if the environment requests it. */
 static bool is_secured(const char *host)
 {
     const char *trusted = getenv("FAILREG_REDIS_CA");
@@ -129,13 +130,13 @@ static bool is_connected(void)
         redis = NULL;
         return false;
     }
-    /* It may have lost what it was given: everybody is told again. */
+    /* Redis may have lost its data: everything is sent again. */
     for (unsigned to = 0; to < nodes; to++)
         peers[to].rest = peers[to].waits = 0;
     return password == NULL || is_done(user ? ask("AUTH %s %s", user, password) : ask("AUTH %s", password));
 }
 
-/* Puts a message into a mailbox, in front of those that are there, of which the newest are kept. */
+/* Puts a message into a mailbox, in front of the others, and trims it to the newest. */
 static bool is_put(unsigned to, const char *message, size_t length)
 {
     return is_done(ask("LPUSH failreg:%s:%u %b", run, to, message, length))
@@ -157,7 +158,7 @@ static void deliver(const char *message, size_t length)
         fprintf(stderr, "over_redis: a message is refused: %s\n", fault);
 }
 
-/* Takes in what came, the newest first. */
+/* Accepts the messages of the mailbox, the newest first. */
 static bool has_taken(void)
 {
     bool is_message = true;
@@ -173,8 +174,8 @@ static bool has_taken(void)
     return true;
 }
 
-/* Tells a peer what it hasn't heard. A mailbox takes messages for one that is gone, too: so one that hasn't answered
- * what it was told last is left alone, for twice as long each time. */
+/* Sends a peer what it lacks. A mailbox also takes messages for a node that is gone: so a peer that hasn't acknowledged
+ * the last message is left alone, twice as long each time. */
 static bool has_told(unsigned to)
 {
     peer *p = &peers[to];
@@ -203,7 +204,7 @@ static bool has_told(unsigned to)
     return is_told;
 }
 
-/* Takes and tells, and answers whether Redis was there. */
+/* Receives and sends. Returns whether Redis was there. */
 static bool has_carried(void)
 {
     bool is_there = (redis != NULL || is_connected()) && has_taken();
@@ -215,7 +216,7 @@ static bool has_carried(void)
     return is_there;
 }
 
-/* Carries messages until all is over, and once more then. Where Redis isn't there it is left alone, for twice as long
+/* Exchanges messages until the program ends, and once more then. If Redis isn't there it is left alone, twice as long
  * each time. */
 static void *carry(void *unused)
 {
@@ -249,7 +250,7 @@ static void save(void)
     free(reason);
 }
 
-/* Asks the node what an operator asks by HTTP. */
+/* Handles a request of the HTTP interface at the node. */
 static void request(const char *method, const char *path, const char *body)
 {
     uint16_t status;

@@ -1,10 +1,10 @@
-/* A node that outlives its process: the file PART has a line for each call that it accepted, and the
- * next process goes on from there, however this one ended.
+/* A node that survives its process: the file JOURNAL has a line for each call that it accepted,
+ * from which the next process resumes, however this one ended.
  *
  *     cc -I embedding embedding/c/part.c embedding/lib/libfailreg.a -o part
- *     ./part PART ORDERS
+ *     ./part JOURNAL ORDERS
  *
- * saves so many orders, of which the point `save` loses three, whoever runs it, and in how many runs. */
+ * saves this many orders. The point `save` loses three, in whichever process and over all runs. */
 #define _DEFAULT_SOURCE
 #include "failreg.h"
 
@@ -32,7 +32,7 @@ static void must(uint32_t status)
         stop(failreg_strerror(status));
 }
 
-/* What is to be fetched, as a line with its newline. The caller frees it. */
+/* Returns the bytes of failreg_fetch, as a line with its newline. The caller frees it. */
 static char *fetched_line(size_t *length)
 {
     size_t text = failreg_fetch(&node, "", 0);
@@ -45,15 +45,15 @@ static char *fetched_line(size_t *length)
     return line;
 }
 
-/* One write: what a process leaves that is killed are whole lines, and the beginning of one at most. Where
- * it fails the call is told to nobody, and no other is made. */
+/* One write: a process that is killed leaves whole lines, and at most one incomplete line. If the
+ * write fails, the call's result becomes visible to nobody, and no other call is made. */
 static void write_line(const char *line, size_t length)
 {
     if (write(part, line, length) != (ssize_t)length)
         stop("the part can't be written");
 }
 
-/* Writes the line of the newest call, before anybody is told of it. */
+/* Writes the line of the newest call, before its result is visible to anybody. */
 static void record(void)
 {
     uint64_t calls;
@@ -66,7 +66,7 @@ static void record(void)
     must(failreg_forget(&node));
 }
 
-/* Opens the part, and makes its calls again. */
+/* Opens the journal, and repeats its calls. */
 static void go_on_from(const char *path)
 {
     char *line = NULL;
@@ -88,7 +88,7 @@ static void go_on_from(const char *path)
     } else if ((size_t)length != of_head || memcmp(line, head, of_head) != 0) {
         stop("the file isn't the part of this node");
     } else {
-        /* A last line without an end is of a call that nobody was told of. */
+        /* The result of a call with an incomplete line was never visible. */
         while ((length = getline(&line, &room, lines)) > 0 && line[length - 1] == '\n') {
             must(failreg_repeat(&node, line, (size_t)length - 1));
             must(failreg_forget(&node));

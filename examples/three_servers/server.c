@@ -1,13 +1,13 @@
-/* A server that saves orders on a disk that fails: the point `disk`. It is a node of one cluster with
- * the processes of server.rs, and does what they do, in one thread.
+/* A server that saves orders on a disk that fails: the point `disk`. It is a node of one cluster
+ * with the processes of server.rs, and works like them, in one thread.
  *
  *     cc -I embedding examples/three_servers/server.c embedding/lib/libfailreg.a -o server
  *     FAILREG_NODE=2/4 FAILREG_LISTEN=127.0.0.1:7072 FAILREG_PEERS=0:7070,1:7071 ./server 8072
  *
- * `POST /orders` at port 8072 saves an order: 200 and `saved`, or 503 and `lost: disk full`. Requests
- * at FAILREG_LISTEN are answered by failreg_answer, and peers are told what they haven't heard. It
- * ends when standard input does. A client has two seconds, and everybody else waits meanwhile; pages
- * of a browser aren't kept off. Where that matters, put these lines behind a server of yours. */
+ * `POST /orders` at port 8072 saves an order: 200 and `saved`, or 503 and `lost: disk full`.
+ * failreg_answer handles requests at FAILREG_LISTEN, and peers are sent what they lack. The server
+ * ends when its standard input does. A client has two seconds, and everybody else waits meanwhile;
+ * browser pages aren't kept out. If that matters, put these lines behind a server of yours. */
 #define _POSIX_C_SOURCE 200809L
 #include "failreg.h"
 
@@ -23,7 +23,7 @@
 
 enum { MOST_NODES = 32, MOST_BYTES = 1 << 20, TICK = 50, LONGEST_REST = 5000 };
 
-/* A peer: where it is served, what it was told last, and for how many milliseconds it is left alone. */
+/* A peer: its address, the versions last sent to it, and its back-off in milliseconds. */
 typedef struct peer {
     uint16_t port;
     uint64_t told_version, told_known;
@@ -83,7 +83,7 @@ static bool sent(int s, const void *bytes, size_t length)
     return true;
 }
 
-/* What a head says of the length of the body: 0 where it says nothing. */
+/* Returns the body's length from a head, 0 if it has none. */
 static size_t body_length(const char *head)
 {
     const char *field = strstr(head, "\r\nContent-Length:");
@@ -92,8 +92,8 @@ static size_t body_length(const char *head)
     return field ? (size_t)strtoul(field + sizeof "\r\nContent-Length:" - 1, NULL, 10) : 0;
 }
 
-/* Reads a head and its body, and tells where the body begins and how long it is. NULL where they
- * don't come. */
+/* Reads a head and its body, and returns the start and the length of the body. NULL if they don't
+ * arrive. */
 static char *read_message(int s, size_t *begin, size_t *length)
 {
     char *bytes = malloc(MOST_BYTES + 1), *end = NULL;
@@ -124,7 +124,7 @@ static void reply(int s, unsigned status, const char *body, size_t length)
     (void)(sent(s, head, (size_t)count) && sent(s, body, length));
 }
 
-/* What is to be fetched. */
+/* Returns the bytes of failreg_fetch. */
 static char *fetched(size_t *length)
 {
     *length = failreg_fetch(&node, "", 0);
@@ -136,7 +136,7 @@ static char *fetched(size_t *length)
     return bytes;
 }
 
-/* Answers a request at the node. */
+/* Handles a request at the node. */
 static void answer(int s, const char *method, const char *path, const char *body, size_t length)
 {
     uint16_t status;
@@ -170,7 +170,7 @@ static void save(int s)
     free(reason);
 }
 
-/* Lets a client in, and answers its request. */
+/* Accepts a client, and handles its request. */
 static void serve(int listener, bool is_node)
 {
     const struct timeval two_seconds = { .tv_sec = 2 };
@@ -195,7 +195,7 @@ static void serve(int listener, bool is_node)
     close(s);
 }
 
-/* Makes a message to a peer, once it can be reached, and tells whether the peer took it in. */
+/* Makes a message to a peer, once it is connected, and returns whether the peer accepted it. */
 static bool post(unsigned to)
 {
     struct sockaddr_in at;
@@ -224,8 +224,8 @@ static bool post(unsigned to)
     return is_taken;
 }
 
-/* Tells a peer what it hasn't heard, or leaves it alone: for twice as long each time that it isn't
- * reached, or has said nothing of what it was told. */
+/* Sends a peer what it lacks, or leaves it alone: twice as long each time that it isn't reached, or
+ * hasn't acknowledged the last message. */
 static void tell(unsigned to)
 {
     peer *p = &peers[to];
@@ -256,7 +256,7 @@ static const char *from_environment(const char *name)
     return value;
 }
 
-/* Which node it is, where it listens, and where its peers do. */
+/* The node's number, its address and its peers. */
 static unsigned open_node(void)
 {
     const uint8_t seed[32] = { 1 };

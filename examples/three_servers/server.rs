@@ -1,12 +1,12 @@
-//! A server that saves orders on a disk that fails: the point `disk`. Each process of it is a node of
-//! one cluster, as its environment says, so that an operator sets `disk` at any of them.
+//! A server that saves orders on a disk that fails: the point `disk`. Each of its processes is a
+//! node of one cluster, as its environment says, so an operator can set `disk` at any of them.
 //!
 //!     order_server PORT [WORKERS]
 //!
 //! `POST /orders` at this port saves an order: 200 and `saved`, or 503 and `lost: disk full`. With
-//! WORKERS as many threads save orders without a client, until a line comes from standard input. The
-//! server ends when that ends. It prints a line `served at <address>` first, and then
-//! `injected <reason>` for each failure that it was made to have, before the order is lost.
+//! WORKERS, as many threads save orders without a client, until a line arrives on standard input.
+//! The server ends when its standard input does. It first prints a line `served at <address>`, and
+//! then `injected <reason>` for each injected failure, before the order is lost.
 
 use failreg::fail_point;
 use std::io::{BufRead, BufReader, Read, Write};
@@ -14,10 +14,10 @@ use std::net::{Ipv4Addr, TcpListener, TcpStream};
 use std::sync::atomic::{AtomicBool, Ordering};
 use std::time::Duration;
 
-/// Whether the workers save no more orders. It orders nothing else.
+/// Whether the workers stop. It orders no memory access.
 static IS_RESTING: AtomicBool = AtomicBool::new(false);
 
-/// Each process counts by these lines. One that is killed may lose its last, and makes none up.
+/// These lines count a process's failures. A killed process may lose its last one, and adds none.
 fn injected(reason: Option<String>) -> Result<(), String> {
     let reason = reason.unwrap_or("disk".into());
     println!("injected {reason}");
@@ -61,7 +61,7 @@ fn serve_order(mut stream: TcpStream) -> std::io::Result<()> {
 
 fn work() {
     while !IS_RESTING.load(Ordering::Relaxed) {
-        // The order is lost, and the next one comes.
+        // The order is lost, and the next one follows.
         _ = write_to_disk();
         std::thread::sleep(Duration::from_millis(1));
     }
@@ -78,7 +78,7 @@ fn main() -> Result<(), Box<dyn std::error::Error>> {
     let listener = TcpListener::bind((Ipv4Addr::LOCALHOST, port))?;
     std::thread::spawn(move || {
         for stream in listener.incoming().flatten() {
-            // A client that is gone is none of the others'.
+            // A client that is gone doesn't affect the others.
             std::thread::spawn(move || serve_order(stream));
         }
     });
