@@ -252,7 +252,7 @@ static const char *from_environment(const char *name)
 {
     const char *value = getenv(name);
     if (!value)
-        stop("FAILREG_NODE, FAILREG_LISTEN and FAILREG_PEERS say which node it is");
+        stop("set FAILREG_NODE and FAILREG_LISTEN");
     return value;
 }
 
@@ -263,11 +263,11 @@ static unsigned open_node(void)
     unsigned port, to, at;
     if (sscanf(from_environment("FAILREG_NODE"), "%u/%u", &number, &nodes) != 2
         || nodes > MOST_NODES || sscanf(from_environment("FAILREG_LISTEN"), "127.0.0.1:%u", &port) != 1)
-        stop("FAILREG_NODE is as 1/3, and FAILREG_LISTEN as 127.0.0.1:7071");
-    for (const char *rest = from_environment("FAILREG_PEERS"); rest; rest = strchr(rest, ',')) {
+        stop("expected FAILREG_NODE such as 1/3, and FAILREG_LISTEN such as 127.0.0.1:7071");
+    for (const char *rest = getenv("FAILREG_PEERS"); rest; rest = strchr(rest, ',')) {
         rest += *rest == ',';
         if (sscanf(rest, "%u:%u", &to, &at) != 2 || to >= nodes)
-            stop("FAILREG_PEERS is as 0:7070,1:7071");
+            stop("expected FAILREG_PEERS such as 0:7070,1:7071");
         if (to != number)
             peers[to] = (peer){ .port = (uint16_t)at, .rest = TICK };
     }
@@ -278,7 +278,7 @@ static unsigned open_node(void)
 int main(int count, char **words)
 {
     if (count != 2)
-        stop("it takes the port of orders");
+        stop("usage: server PORT");
     signal(SIGPIPE, SIG_IGN);
     setvbuf(stdout, NULL, _IOLBF, 0);
     unsigned port = open_node();
