@@ -1,6 +1,6 @@
-/* Asks a node by requests of HTTP, each with each of its allocations refused in turn. Where one
- * was refused, the reply is 503 and nothing has changed, or the request was done and is answered as
- * such; made again, it is answered as if nothing had been refused. What needs no memory takes none.
+/* Sends a node HTTP requests, and lets each of their allocations fail in turn. After a failure the
+ * response is 503 and nothing has changed, or the request was carried out with its normal response;
+ * a repeated request works as if nothing had failed. Requests that need no memory allocate none.
  * Link with --wrap=malloc,--wrap=realloc. */
 #include "failreg.h"
 
@@ -10,7 +10,7 @@
 
 static const char *tried = "the start";
 
-/* How many growths there are until one is refused; below 0 none is. */
+/* How many allocations succeed until one fails; none fails if negative. */
 static struct {
     long left;
     bool met;
@@ -108,7 +108,7 @@ static uint64_t calls_of(failreg *node)
     return calls;
 }
 
-/* Makes a request until none of its growths is refused: 503 changes nothing. Tells how often. */
+/* Sends a request until none of its allocations fails: 503 changes nothing. Returns how often. */
 static long try_each_growth(failreg *node, const request *it)
 {
     for (long growths = 0;; growths++) {
@@ -130,7 +130,7 @@ static long try_each_growth(failreg *node, const request *it)
     }
 }
 
-/* A message that node 1 made is taken in by a request, once, and is nothing new then. */
+/* A message of node 1 is accepted by a request once, and changes nothing the second time. */
 static void take_a_message(failreg *node)
 {
     static const uint8_t seed[32] = { 1 };
@@ -154,7 +154,7 @@ static void take_a_message(failreg *node)
     failreg_close(&other);
 }
 
-/* What is refused before it is a request tells nothing, and changes nothing. */
+/* Input that is no request has no response, and changes nothing. */
 static void refuse_what_is_none(failreg *node)
 {
     failreg closed = FAILREG_CLOSED_NODE;
@@ -172,7 +172,7 @@ static void refuse_what_is_none(failreg *node)
     CHECK(status == 0 && calls_of(node) == before);
 }
 
-/* A point that is set and spread, whatever is refused under way: set anew, it is set and spread. */
+/* A point that is set and spread, whichever allocation fails: repeated, it is set and spread. */
 static void spread_a_point(failreg *node)
 {
     static const request SET = { "PUT", "/spread/s", "5*return", 200, NULL, true, true };
@@ -196,7 +196,7 @@ static void spread_a_point(failreg *node)
     CHECK(is_as_wanted(&KEPT, &kept) && calls_of(node) == before + 1);
 }
 
-/* A node whose trace is full says so, whether there is memory or not. */
+/* A node at its call limit says so, whether there is memory or not. */
 static void refuse_at_a_full_node(void)
 {
     static const uint8_t seed[32] = { 1 };

@@ -1,4 +1,4 @@
-// A program of C++: a node in an object that closes it, with the calls of failreg.h.
+// A C++ program: a node in an object that closes it, with the calls of failreg.h.
 #include "failreg.h"
 
 #include <cstdio>
@@ -15,7 +15,7 @@ void must(std::uint32_t status)
         throw std::runtime_error(failreg_strerror(status));
 }
 
-// A node of a cluster of two, which closes itself.
+// A node of a cluster of two, which is closed by its destructor.
 class Node {
 public:
     explicit Node(std::uint8_t number)

@@ -1,11 +1,11 @@
-/* The greatest message that a node of 32 accepts, taken in and written again.
+/* The largest message that a node of 32 accepts, delivered and emitted again.
  *
  *     great_message plain|grants NAMES TIMES
  *
- * Each name has 128 bytes, a text of 1,024 with 16 counted terms, and all the cells that other nodes
- * can tell a node of: hits, executions and shifts, and grants where they are asked for. A node of its
- * own takes the message in so often and writes one to a third node, which has to tell the same, to
- * the byte. It prints the bytes, and the least nanoseconds in which it was taken in and written. */
+ * Each name has 128 bytes, a string of 1,024 with 16 counted terms, and every cell that other nodes
+ * can send a node: hits, executions and transfers, and with `grants` also grants. A new node
+ * accepts the message this many times, and emits one to a third node, which must be the same to the
+ * byte. It prints the bytes, and the minimum nanoseconds of delivering and emitting. */
 #define _POSIX_C_SOURCE 200809L
 #include "failreg.h"
 
@@ -17,7 +17,7 @@
 enum { NODES = 32, TERMS = 16, NAME = 128, TEXT = 1024, HEAD = 30, MOST_NAMES = 256 };
 enum { READER = 0, SETTER = 1, THIRD = 2 };
 
-/* A message under way. */
+/* A message on its way. */
 static uint8_t *bytes;
 static size_t length;
 
@@ -33,7 +33,7 @@ static void want(uint32_t status)
         stop(failreg_strerror(status));
 }
 
-/* A number of so many bytes, the greatest first. */
+/* A number of this many bytes, the most significant first. */
 static void put(uint64_t number, int count)
 {
     for (int i = count - 1; i >= 0; i--)
@@ -71,7 +71,8 @@ static void put_cells(void)
         }
 }
 
-/* What each node but the reader moved to each other one: the setter enough for what they move and run. */
+/* What each node except the reader transferred to each other one: the setter enough for what they
+ * transfer and run. */
 static void put_shifts(void)
 {
     put(TERMS * (NODES - 1) * (NODES - 1), 2);
@@ -105,7 +106,7 @@ static void put_name(int number, bool grants)
         put_cells();
 }
 
-/* Of the setter to the reader, which knows nothing yet. */
+/* From the setter to the reader, which knows nothing yet. */
 static void make(int names, bool grants)
 {
     bytes = malloc((size_t)HEAD + (size_t)names * 200000);
@@ -129,7 +130,7 @@ static double nanoseconds(void)
     return (double)now.tv_sec * 1e9 + (double)now.tv_nsec;
 }
 
-/* Whether what the node left to be fetched tells the same as the message. */
+/* Returns whether the fetched message has the same content as this one. */
 static bool tells_the_same(failreg *node)
 {
     uint8_t *other = malloc(length);

@@ -1,6 +1,6 @@
-/* Refuses each growth of each call in turn, alone and with all behind it. A call that is refused one
- * says so, tells nothing and leaves the node as it was; made again, it is answered as if nothing had
- * been refused. Link with --wrap=malloc,--wrap=realloc, so that the library's growths come here. */
+/* Lets each allocation of each call fail in turn, alone and with all later ones. Such a call
+ * reports it, returns nothing and leaves the node unchanged; repeated, it works as if nothing had
+ * failed. Link with --wrap=malloc,--wrap=realloc, so that the library's allocations come here. */
 #include "failreg.h"
 
 #include <limits.h>
@@ -26,7 +26,7 @@ enum { AT_P, AT_Q };
 static const uint8_t SEED[32] = { 7 };
 static const char *tried = "the start";
 
-/* Which growths are refused, from 1 on, and how many there were. */
+/* Which allocations fail, from 1 on, and how many there were. */
 static struct {
     long first, last, seen, met;
 } refused;
@@ -59,7 +59,7 @@ static void refuse(long first, long last)
     refused.seen = refused.met = 0;
 }
 
-/* What a call answered and told, with what it left to be fetched. */
+/* What a call returned, with what failreg_fetch returns after it. */
 typedef struct told {
     uint32_t status;
     failreg_stamp stamp;
@@ -97,7 +97,7 @@ static void fetch(failreg *node, told *t)
     CHECK(t->length <= sizeof t->bytes);
 }
 
-/* The message of node 0 to this one that sets `z` to `2*off`, after a pass. */
+/* The message of node 0 to this one that sets `z` to `2*off`, after an evaluation. */
 static told message;
 
 static void set(failreg *n, told *t)
@@ -153,7 +153,7 @@ static void pass_with_word(failreg *n, told *t)
     fetch(n, t);
 }
 
-/* The number of a point that has one, and of one that is new. */
+/* The number of a point that has one, and of a new one. */
 static void point(failreg *n, told *t)
 {
     uint32_t number;
@@ -301,7 +301,7 @@ static failreg opened(uint8_t number)
     return node;
 }
 
-/* A node that was asked and refused something. */
+/* A node with an accepted and a rejected call. */
 static failreg prepared(void)
 {
     told t;
@@ -317,8 +317,8 @@ static failreg prepared(void)
     return node;
 }
 
-/* Whether two nodes list the same points, accepted as many calls, of which as many changed what
- * they know, and know as many versions of node 0. */
+/* Returns whether two nodes list the same points, accepted as many calls, of which as many changed
+ * what they know, and know as many versions of node 0. */
 static bool shows_same(failreg *one, failreg *other)
 {
     told a = { 0 }, b = { 0 };
@@ -335,8 +335,8 @@ static bool shows_same(failreg *one, failreg *other)
            && known[0] == known[1];
 }
 
-/* Whether two nodes show the same, tell all that they know in the same message, and draw the same
- * words after that. */
+/* Returns whether two nodes show the same, emit everything they know in the same message, and draw
+ * the same numbers after that. */
 static bool are_same(failreg *one, failreg *other)
 {
     told a = { 0 }, b = { 0 };
@@ -358,7 +358,7 @@ static bool are_same(failreg *one, failreg *other)
     return is_told_same(&a, &b);
 }
 
-/* Makes a call at a node of which growths are refused, and again. Tells whether any was. */
+/* Makes a call while allocations fail, and again. Returns whether any failed. */
 static bool is_refused(void (*call)(failreg *, told *), long first, long last)
 {
     static const told nothing = { .status = FAILREG_E_NO_MEMORY };
@@ -384,7 +384,7 @@ static bool is_refused(void (*call)(failreg *, told *), long first, long last)
     return any;
 }
 
-/* A node that can't be opened stays closed, and is opened then. */
+/* A node that can't be opened stays closed, and can be opened later. */
 static bool open_is_refused(long first, long last)
 {
     failreg node = FAILREG_CLOSED_NODE;

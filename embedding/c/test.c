@@ -1,4 +1,4 @@
-/* What a program of C sees of nodes: a count that two nodes share over threads, tasks, refusals. */
+/* Nodes in a C program: a count that two nodes share over threads, actions, errors. */
 #define _POSIX_C_SOURCE 200809L
 #include "failreg.h"
 
@@ -22,7 +22,7 @@ enum { NODES = 2, THREADS = 4, PASSES = 2000 };
 
 static const uint8_t SEED[32] = { 1, 2, 3 };
 
-/* A node with the mutex by which threads take turns at it. */
+/* A node with its mutex. */
 typedef struct shared {
     failreg node;
     pthread_mutex_t mutex;
@@ -48,7 +48,7 @@ static failreg_act pass(failreg *node)
     return act;
 }
 
-/* What is to be fetched, with a closing zero. The caller frees it. */
+/* Returns the bytes of failreg_fetch, with a zero after them. The caller frees it. */
 static char *fetched(const failreg *node, size_t *length)
 {
     *length = failreg_fetch(node, "", 0);
@@ -67,7 +67,7 @@ static bool said(const failreg *node, const char *wanted)
     return is_same;
 }
 
-/* Whether the last refusal has this text. */
+/* Returns whether the last rejected call has this text. */
 static bool faulted(const failreg *node, const char *wanted)
 {
     char text[256];
@@ -111,7 +111,7 @@ static void *pass_often(void *given)
     return (void *)ran;
 }
 
-/* Rights go to the node that passes, which keeps one; and they are dealt out where that is asked for. */
+/* Sharing moves rights to the node that evaluates, which keeps one; spreading divides them. */
 static void rights_follow_passes(void)
 {
     failreg first = opened(0), second = opened(1);
@@ -126,7 +126,7 @@ static void rights_follow_passes(void)
     CHECK(failreg_rights(&first, TEXT("p"), 0, 0, &left) == FAILREG_OK && left == 3);
     CHECK(failreg_share(&first, &shifts) == FAILREG_OK && shifts == 0);
     CHECK(tell(&first, 1, &second) && pass(&second).term == 0);
-    /* Of three one goes, since the other share is the greater one. */
+    /* One of three is transferred: the larger share stays. */
     CHECK(failreg_spread(&first, TEXT("p"), &kept) == FAILREG_OK && kept == 2);
     CHECK(failreg_set_spread(&first, TEXT("p"), TEXT("5*return->2*panic"), &stamp) == FAILREG_OK);
     CHECK(stamp.clock == 2 && stamp.node == 0);
@@ -145,7 +145,7 @@ static void rights_follow_passes(void)
     CHECK(failreg_set_spread(&first, TEXT("p"), TEXT("off"), &stamp) == FAILREG_E_CLOSED);
 }
 
-/* Nothing is half done where the cap leaves no room for it. */
+/* Nothing is half done if the call limit leaves no room for it. */
 static void a_spread_has_room(void)
 {
     failreg node = FAILREG_CLOSED_NODE;
@@ -164,7 +164,7 @@ static void a_spread_has_room(void)
     failreg_close(&node);
 }
 
-/* Two nodes share the 1000 of a count, and four threads at each use up just those. */
+/* Two nodes share a count of 1000, and four threads at each use up exactly these. */
 static void a_count_is_shared_over_threads(void)
 {
     shared nodes[NODES];
@@ -205,7 +205,7 @@ static void a_count_is_shared_over_threads(void)
     }
 }
 
-/* A lock that stays taken is looked at a few times, and then slept for. */
+/* A lock that stays taken is tried a few times, and then slept for. */
 static void looks_end(void)
 {
     unsigned looks = 0;
@@ -221,7 +221,7 @@ static double seconds(void)
     return (double)now.tv_sec + (double)now.tv_nsec / 1e9;
 }
 
-/* Carries a task out, as a program does, and answers whether it is `return`. */
+/* Carries out an action, as a program does. Returns whether it is `return`. */
 static bool carry_out(failreg *node, failreg_act act)
 {
     struct timespec time = { (time_t)(act.millis / 1000), (long)(act.millis % 1000) * 1000000 };
@@ -250,7 +250,7 @@ static bool carry_out(failreg *node, failreg_act act)
     return false;
 }
 
-/* Each task, its text and its time. */
+/* Each action, its text and its time. */
 static void tasks_are_told_and_carried_out(void)
 {
     static const struct {
@@ -288,7 +288,8 @@ static void tasks_are_told_and_carried_out(void)
     failreg_close(&node);
 }
 
-/* Words: those that a pass drew give the same when they are given, and no others are drawn. */
+/* Random draws: those of an evaluation have the same result when they are given, and no others are
+ * drawn. */
 static void words_are_drawn(void)
 {
     failreg node = opened(0), other = opened(0);
@@ -308,8 +309,8 @@ static void words_are_drawn(void)
     failreg_close(&other);
 }
 
-/* Numbers of points: a name has one and keeps it, and a pass by it is one by the name, with its text, which
- * stays to be fetched while the point gets another setting. */
+/* Numbers of points: a name has one and keeps it. Evaluating by the number is evaluating the name;
+ * its text can be fetched while the point gets another configuration. */
 static void points_have_numbers(void)
 {
     failreg node = opened(0), other = opened(0);
@@ -352,7 +353,7 @@ static void points_have_numbers(void)
     CHECK(failreg_pass_at(&node, 0, &act) == FAILREG_E_CLOSED);
 }
 
-/* A look at a point, its settings, and the versions. Only accepted calls that change it count. */
+/* Reads of a point, its configurations, and the versions. Only accepted calls that change it count. */
 static void readers_take_no_entry(void)
 {
     failreg node = opened(0), other = opened(1);
@@ -382,7 +383,7 @@ static uint64_t kept(const failreg *node)
     return calls;
 }
 
-/* Whether two nodes would tell node 1 the same. */
+/* Returns whether two nodes would send node 1 the same message. */
 static bool tell_the_same(failreg *node, failreg *other)
 {
     size_t length, same;
@@ -394,7 +395,7 @@ static bool tell_the_same(failreg *node, failreg *other)
     return is;
 }
 
-/* A node that forgets its calls, however often, goes on as one that keeps them. */
+/* A node that discards its call history, however often, works like one that keeps it. */
 static void calls_are_forgotten(void)
 {
     failreg node = opened(0), other = opened(0);
@@ -424,7 +425,7 @@ static void calls_are_forgotten(void)
     CHECK(failreg_kept(&node, &calls) == FAILREG_E_CLOSED && calls == 0);
 }
 
-/* A cap is one of the whole life, also where the calls are forgotten. */
+/* A call limit holds for the whole life, even if the history is discarded. */
 static void a_cap_is_of_a_life(void)
 {
     failreg node = FAILREG_CLOSED_NODE;
@@ -438,7 +439,7 @@ static void a_cap_is_of_a_life(void)
     failreg_close(&node);
 }
 
-/* What is refused leaves the node, and says why. */
+/* Rejected calls leave the node unchanged, and say why. */
 static void refusals_are_told(void)
 {
     failreg node = FAILREG_CLOSED_NODE;
@@ -472,8 +473,8 @@ static void refusals_are_told(void)
     CHECK(failreg_list(&node) == FAILREG_E_CLOSED);
 }
 
-/* The text of a fault has a call of its own: what is to be fetched stays, and as much is written as there
- * is room for. */
+/* The error text has a call of its own: it doesn't change what failreg_fetch returns, and writes as
+ * much as there is room for. */
 static void faults_leave_what_is_to_be_fetched(void)
 {
     failreg node = opened(0), other = opened(1);
@@ -498,13 +499,13 @@ static void faults_leave_what_is_to_be_fetched(void)
     CHECK(failreg_fault(&node, text, 3, &length) == FAILREG_E_CLOSED && length == 0);
 }
 
-/* Whether the line of a call is this. */
+/* Returns whether the line of a call is this. */
 static bool has_line(failreg *node, uint64_t index, const char *wanted)
 {
     return failreg_entry(node, index) == FAILREG_OK && said(node, wanted);
 }
 
-/* The lines of a node's part: its head, and one for each call that is kept. */
+/* The lines of a node's journal: its first line, and one for each call of its history. */
 static void a_part_has_lines(void)
 {
     failreg node = opened(1);
@@ -532,7 +533,7 @@ static void a_part_has_lines(void)
     CHECK(failreg_entry(&node, 0) == FAILREG_E_CLOSED);
 }
 
-/* Makes the newest call of a node again at another one. */
+/* Repeats the newest call of a node at another one. */
 static uint32_t repeat_newest(failreg *from, failreg *at)
 {
     uint64_t calls;
@@ -545,7 +546,7 @@ static uint32_t repeat_newest(failreg *from, failreg *at)
     return status;
 }
 
-/* A node that makes the calls of another one again goes on as that does, with its draws. */
+/* A node that repeats the calls of another one continues like that one, with its draws. */
 static void calls_are_repeated(void)
 {
     failreg node = opened(0), other = opened(0);
@@ -569,7 +570,8 @@ static void calls_are_repeated(void)
     failreg_close(&other);
 }
 
-/* What is no line leaves a node as it was. Where it answers otherwise than a line says it is closed. */
+/* A text that is no line leaves a node unchanged. If the call has another result than its line, the
+ * node is closed. */
 static void a_line_that_differs_closes_a_node(void)
 {
     static const char *const none[] = { "", "{}", "\xff", "null", "[]", "pass p",
@@ -596,7 +598,7 @@ static void a_line_that_differs_closes_a_node(void)
     }
 }
 
-/* Words for each status, and the version of the library is that of its header. */
+/* A text for each status; the version of the library is that of its header. */
 static void words_and_versions(void)
 {
     CHECK(strcmp(failreg_strerror(FAILREG_OK), "accepted") == 0);

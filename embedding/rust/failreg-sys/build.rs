@@ -1,10 +1,10 @@
-//! Links `libfailreg.a`, the proved library with the memory functions that it calls. It is looked
-//! for in the folder that FAILREG_LIB names, and without that in `lib` beside this file, where an
-//! installed package has it; then in `lib` beside the crates' folder, where a package has it that
-//! was only unpacked, and where `embedding/build` leaves it.
+//! Links `libfailreg.a`, the proved library with the memory functions that it calls. The build
+//! looks in the folder FAILREG_LIB, or else in `lib` next to this file (an installed package), and
+//! then in `lib` next to the crates' folder (an unpacked package, or the result of
+//! `embedding/build`).
 //!
-//! Where it isn't there, or is for another target, this says so and goes on: what links nothing
-//! (`cargo check`, `cargo doc`) needs none, and the linker stops at what does.
+//! If it is missing, or for another target, this prints a warning and continues: what links nothing
+//! (`cargo check`, `cargo doc`) needs none, and the linker stops otherwise.
 
 use std::env;
 use std::path::{Path, PathBuf};
@@ -19,7 +19,7 @@ fn places() -> Vec<PathBuf> {
     }
 }
 
-/// The first place that has the archive; where none has, the last one.
+/// Returns the first place that has the archive, or else the last one.
 fn folder() -> PathBuf {
     let mut places = places();
     let found = places

@@ -1,37 +1,37 @@
-//! A program with failpoints that names the crate `fail` alone, in each form that fail-rs
-//! documents. Its tests say what is documented of each; a build without the feature `failpoints`
-//! links no library.
+//! A program with failpoints that names only the crate `fail`, in each form that fail-rs documents.
+//! Its tests check what is documented of each; a build without the feature `failpoints` links no
+//! library.
 
-// Without failpoints what is named in a `fail_point!` alone isn't used, as with fail-rs.
+// Without failpoints a `fail_point!` doesn't use its arguments, as with fail-rs.
 #![cfg_attr(not(feature = "failpoints"), allow(unused))]
 
 use fail::fail_point;
 use std::error::Error;
 use std::io;
 
-/// Whether points do anything, known when the program is compiled.
+/// Whether points do anything, known at compile time.
 pub const HAS_FAILPOINTS: bool = fail::has_failpoints();
 
-/// A point that leaves no function.
+/// A point that doesn't return from the function.
 pub fn plain() -> &'static str {
     fail_point!("plain");
     "went on"
 }
 
-/// A point that leaves the function with its argument, or with 2.
+/// A point that returns its argument from the function, or 2.
 pub fn number() -> u64 {
     fail_point!("number", |argument| argument
         .map_or(2, |text| text.parse().unwrap()));
     0
 }
 
-/// A point that is passed under a condition.
+/// A point that is evaluated under a condition.
 pub fn conditional(enable: bool) -> bool {
     fail_point!("conditional", enable, |_| true);
     false
 }
 
-/// A point in a function that answers nothing.
+/// A point in a function that returns nothing.
 pub fn nothing(reached: &mut bool) {
     fail_point!("nothing", |_| {});
     *reached = true;
@@ -56,7 +56,7 @@ pub fn by_function() -> Result<u8, Box<dyn Error>> {
     Ok(0)
 }
 
-/// A point whose name isn't spelled out.
+/// A point whose name isn't a literal.
 pub fn shard(number: u32) -> Option<String> {
     let name = format!("shard.{number}");
     fail_point!(&name, |argument| argument);
@@ -64,7 +64,7 @@ pub fn shard(number: u32) -> Option<String> {
     None
 }
 
-/// A point in a function for any type, and one in a closure of it.
+/// A point in a generic function, and one in a closure of it.
 pub fn any<T: Default>(value: T) -> T {
     fail_point!("any", |_| T::default());
     let through = |value: T| {
@@ -80,13 +80,13 @@ pub fn numbers() -> impl Iterator<Item = u8> {
     vec![1, 2].into_iter()
 }
 
-/// A point in a function that waits.
+/// A point in an async function.
 pub async fn later() -> u8 {
     fail_point!("later", |_| 1);
     0
 }
 
-/// Points of a program that makes its own macro of them.
+/// Points of a program with a macro of its own for them.
 #[macro_export]
 macro_rules! point_of_mine {
     ($name:literal) => {

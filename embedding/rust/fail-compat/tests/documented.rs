@@ -1,4 +1,4 @@
-//! What fail-rs documents of its calls, task by task.
+//! What fail-rs documents of its calls, action by action.
 
 #![cfg(feature = "failpoints")]
 
@@ -14,7 +14,7 @@ use std::time::{Duration, Instant};
 
 const SHORT: Duration = Duration::from_millis(40);
 
-// The text of the panic of this.
+// The text of this closure's panic.
 fn panic_of<T>(run: impl FnOnce() -> T) -> String {
     let Err(caught) = catch_unwind(AssertUnwindSafe(run)) else {
         panic!("no panic came");
@@ -31,7 +31,7 @@ fn time_of<T>(run: impl FnOnce() -> T) -> Duration {
     begun.elapsed()
 }
 
-// How many of so many passes returned.
+// How many of this many evaluations returned.
 fn returned(passes: usize) -> usize {
     (0..passes).filter(|_| number() != 0).count()
 }
@@ -165,7 +165,7 @@ fn panic_panics_with_its_message() {
     assert_eq!(plain(), "went on");
 }
 
-// What `print` writes is seen from outside: this test runs itself, and passes the point there.
+// The output of `print` is seen from outside: this test runs itself, and evaluates the point there.
 #[test]
 fn print_writes_to_standard_error() {
     const CHILD: &str = "FAIL_COMPAT_PRINTS";
@@ -227,10 +227,11 @@ fn pause_ends_with_the_scenario() {
         for _ in 0..THREADS {
             begun.recv().unwrap();
         }
-        // Each is about to pass now, and waits before this is over.
+        // Each is about to evaluate now, and waits before this is over.
         assert!(told.recv_timeout(4 * SHORT).is_err());
         scenario.teardown();
-        // The next scenario may set the same again: that is another setting, and none waits for it.
+        // The next scenario may set the same string again: that is another configuration, and
+        // nobody waits for it.
         let next = (round % 2 == 0).then(FailScenario::setup);
         if next.is_some() {
             cfg("number", "pause").unwrap();
@@ -260,7 +261,7 @@ fn a_count_is_the_most_times() {
     let _scenario = FailScenario::setup();
     cfg("number", "3*return").unwrap();
     assert_eq!(returned(10), 3);
-    // A setting again begins to count anew.
+    // A new configuration starts counting at zero.
     cfg("number", "3*return").unwrap();
     assert_eq!(returned(10), 3);
     cfg("number", "0*return").unwrap();
@@ -396,7 +397,7 @@ fn a_guard_removes_its_point() {
     assert_eq!(number(), 4);
     drop(guard);
     assert_eq!(number(), 0);
-    // Also where the thread panics.
+    // Even if the thread panics.
     let text = panic_of(|| {
         let _guard = FailGuard::new(String::from("plain"), "panic(out)").unwrap();
         plain()

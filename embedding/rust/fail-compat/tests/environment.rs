@@ -1,4 +1,4 @@
-//! FAILPOINTS, which a scenario reads: a program of its own, since there is one environment.
+//! FAILPOINTS, which a scenario reads: a program of its own, because a process has one environment.
 
 #![cfg(feature = "failpoints")]
 
@@ -6,7 +6,7 @@ use fail::{FailScenario, cfg, list};
 use fail_compat::number;
 
 fn set_failpoints(text: &str) {
-    // SAFETY: this program has one test, and so one thread that looks at the environment.
+    // SAFETY: this program has one test, and so one thread that reads the environment.
     unsafe { std::env::set_var("FAILPOINTS", text) };
 }
 
@@ -35,11 +35,11 @@ fn by_each_scenario() {
     cfg("number", "return(4)").unwrap();
     assert_eq!(number(), 4);
     scenario.teardown();
-    // The program's node is another one, and no pass of an unset point is a call of it.
+    // The program's node is another one, and no evaluation of an unset point is a call of it.
     assert_eq!((number(), list().len()), (0, 0));
     assert_eq!(fail::program().unwrap().calls(), Ok(0));
 
-    // Entries may be empty, with spaces round them.
+    // Entries may be empty, with spaces around them.
     set_failpoints(" ; number=return(5) ;; ");
     let scenario = FailScenario::setup();
     assert_eq!(number(), 5);
@@ -61,7 +61,7 @@ fn with_an_error_for_what_is_wrong() {
     assert_eq!(number(), 6);
 }
 
-// The program's registry made itself above; it may be set up all the same.
+// The program's registry was opened above; it may be set up all the same.
 fn once_by_setup() {
     fail::setup(0, 1, 1000).unwrap();
     assert_eq!(number(), 6);

@@ -1,4 +1,4 @@
-//! A build without the feature `failpoints`: every point is nothing, and the calls are there.
+//! A build without the feature `failpoints`: every point is nothing, and the calls exist.
 
 #![cfg(not(feature = "failpoints"))]
 

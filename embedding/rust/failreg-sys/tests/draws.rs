@@ -1,10 +1,10 @@
-//! The random draws of passes: those of ChaCha8 whose key is the seed, on the stream of the node's
-//! number.
+//! The random draws of evaluations: ChaCha8's, with the seed as its key, on the stream of the
+//! node's number.
 
 use failreg_sys::*;
 
-/// The first ones for the key 00 01 02 .. 1f on stream 1. They are those of a program written from
-/// the cipher's definition, whose first block for the key of zeros is the published one: 3e00ef2f
+/// The first ones for the key 00 01 02 .. 1f on stream 1. They come from a program written from the
+/// cipher's definition, whose first block for the key of zeros is the published one: 3e00ef2f
 /// 895f40d6 7f5bb8e8 1f09a5a1 ..
 const FIRST_DRAWS: [u32; 4] = [4011706191, 3171865337, 2462398529, 2436282966];
 
@@ -13,15 +13,15 @@ const NAME: &str = "p";
 fn set(node: &mut failreg, actions: &str) -> u32 {
     let mut stamp = failreg_stamp::default();
     let (name, text) = (NAME.as_ptr(), actions.as_ptr());
-    // SAFETY: each pointer leads to as many bytes as the length beside it says.
+    // SAFETY: each pointer leads to as many bytes as its length says.
     unsafe { failreg_set(node, name, NAME.len(), text, actions.len(), &mut stamp) }
 }
 
-/// The draws of a pass, which has at most two.
+/// Returns the draws of an evaluation, which has at most two.
 fn draws_of_pass(node: &mut failreg) -> Vec<u32> {
     let mut act = failreg_act::default();
     let mut draws = [0; 2];
-    // SAFETY: each pointer leads to as many bytes or words as the length beside it says.
+    // SAFETY: each pointer leads to as many bytes or numbers as its length says.
     let count = unsafe {
         let status = failreg_pass(node, NAME.as_ptr(), NAME.len(), &mut act);
         assert_eq!(status, FAILREG_OK);

@@ -1,4 +1,4 @@
-//! The numbers here are those of `failreg.h`, and none is missing; nor is a call, or the words for a status.
+//! The numbers, the calls and the texts of statuses here are exactly those of `failreg.h`.
 
 use failreg_sys::{FAILREG_VERSION, OUTCOMES, STATUSES, TASKS, failreg_version};
 use std::collections::BTreeMap;

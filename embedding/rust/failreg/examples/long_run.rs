@@ -1,11 +1,12 @@
-//! Passes two points by four threads for a long time, and says how much memory the process has.
+//! Evaluates two points by four threads for a long time, and prints how much memory the process
+//! has.
 //!
-//!     long_run PASSES
+//!     long_run EVALUATIONS
 //!
-//! One point is counted, the other isn't. The memory after 1,000,000 passes, or after a tenth of
-//! them where that is less, and at the end is what Linux says of the process (`VmRSS`). The status
-//! is 1 where it grew by a megabyte or more, where a pass was refused, or where the counted point
-//! ran more often than its count.
+//! One point is counted, the other isn't. The memory after 1,000,000 evaluations, or after a tenth
+//! of them if that is less, and at the end is what Linux reports (`VmRSS`). The status is 1 if it
+//! grew by a megabyte or more, if an evaluation was rejected, or if the counted point ran more
+//! often than its count.
 
 use failreg::{Builder, Passed, Registry};
 use std::error::Error;
@@ -24,8 +25,8 @@ fn memory() -> Result<u64, Box<dyn Error>> {
     Ok(number.ok_or("/proc/self/status has no VmRSS")?.parse()?)
 }
 
-/// Passes both points in turn, by all threads together so many times; how often the counted one
-/// ran.
+/// Evaluates both points in turn, this many times over all threads. Returns how often the counted
+/// one ran.
 fn pass(node: &Registry, passes: u64) -> Result<u64, failreg::Error> {
     let share = passes / THREADS;
     let worker = |first: u64| -> Result<u64, failreg::Error> {

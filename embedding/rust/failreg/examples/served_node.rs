@@ -1,16 +1,16 @@
-//! A node that is served, by the words of `failreg serve`: `tools/serve_over_loopback` plays clients
-//! that misbehave at either.
+//! A served node with the arguments of `failreg serve`: `tools/serve_over_loopback` sends
+//! adversarial input to either.
 //!
 //!     served_node serve --node N --nodes M (--port P | --listen ADDRESS:P --key-file FILE) [PEER..]
 //!         [--requests R] [--cap C] [--every MS] [--record PART] [--run TEXT] [--buffered 1]
 //!         [--pass POINT]
 //!
-//! A peer is `N:PORT`, a node at a port of this machine, or `N:ADDRESS:PORT`. It prints `listening` and the port, and is
-//! served until it is ended: how many requests are wanted is read, and not counted.
+//! A peer is `N:PORT`, a node at a port of this machine, or `N:ADDRESS:PORT`. It prints `listening`
+//! and the port, and serves until it is ended; --requests is accepted and ignored.
 //!
-//! With `--record` it writes its part, and goes on from it. With `--pass` it passes the point all the
-//! time, by three threads and by `main`, and obeys: `panic` in `main` ends it, and where the point says
-//! `return`, it prints `ran` and the reason. `tools/restart_programs` starts it again each time.
+//! With `--record` it writes its journal, and resumes from it. With `--pass` three threads and
+//! `main` evaluate the point all the time: `panic` in `main` ends the process, and after `return`
+//! it prints `ran` and the text. `tools/restart_programs` starts it again each time.
 
 use failreg::{Builder, Peer, Registry, gossip, serve};
 use std::error::Error;
@@ -20,7 +20,7 @@ use std::sync::Arc;
 use std::thread;
 use std::time::Duration;
 
-/// What the words say.
+/// The values of the arguments.
 struct Wanted {
     builder: Builder,
     listen: SocketAddr,
@@ -74,7 +74,7 @@ fn wanted(mut words: impl Iterator<Item = String>) -> Result<Wanted, Box<dyn Err
 fn pass_often(node: &Registry, point: &str) -> ! {
     loop {
         if let Some(reason) = node.eval(point) {
-            // In one write, so that it is whole wherever the process ends.
+            // In one write, so that the line is whole wherever the process ends.
             let line = format!("ran {}\n", reason.unwrap_or_default());
             drop(io::stdout().write_all(line.as_bytes()));
         }

@@ -1,12 +1,12 @@
-//! What a pass of a set point costs beside a server, and beside gossip every 100 ms: see
+//! The cost of evaluating a set point next to an HTTP service, and next to gossip every 100 ms: see
 //! bench/README.md.
 //!
 //!     serving_speed [ROUNDS]
 //!
-//! In a round each of three nodes makes a million passes: one alone, one that is served and that
-//! nobody asks, one that is served and tells a peer, which tells it; in the next round they change
-//! places. It prints the least and the median of the rounds, in nanoseconds a pass, and their ratios
-//! to those alone.
+//! In a round each of three nodes makes a million evaluations: one alone, one that is served
+//! without requests, and one that is served and gossips with a peer; in the next round they swap.
+//! It prints the minimum and the median of the rounds, in nanoseconds per evaluation, and their
+//! ratios to those of the first node.
 
 use failreg::{Builder, Error, Gossip, Peer, Registry, Serving, fail_point, gossip, serve};
 use std::hint::black_box;
@@ -23,7 +23,7 @@ fn passed(node: &Registry) -> u32 {
     0
 }
 
-// Nanoseconds a pass.
+// Nanoseconds per evaluation.
 fn time(node: &Registry) -> f64 {
     let begun = Instant::now();
     for _ in 0..PASSES {
@@ -41,7 +41,7 @@ fn serve_free(node: &Arc<Registry>) -> Result<Serving, Error> {
     serve(node.clone(), (Ipv4Addr::LOCALHOST, 0))
 }
 
-/// A node, and a peer that it may tell. A peer is never opened again under its number.
+/// A node, and a peer with which it may gossip. A peer is never opened again under its number.
 struct Pair {
     node: Arc<Registry>,
     peer: Arc<Registry>,
@@ -54,7 +54,7 @@ impl Pair {
         Ok(Pair { node, peer })
     }
 
-    // The peer's service, and both telling each other.
+    // The peer's service, and gossip in both directions.
     fn tell(&self, serving: &Serving) -> Result<(Serving, Gossip, Gossip), Error> {
         let its = serve_free(&self.peer)?;
         let there = gossip(self.node.clone(), &[Peer::new(1, its.addr())], EVERY)?;
@@ -81,7 +81,7 @@ fn main() -> Result<(), Error> {
     let pairs = [Pair::open()?, Pair::open()?, Pair::open()?];
     let mut all: [Vec<f64>; 3] = Default::default();
     for turn in 0..rounds {
-        // Where in memory a node lies makes a difference, so each takes each turn.
+        // A node's address in memory makes a difference, so each node takes each turn.
         let took = round([0, 1, 2].map(|kind| &pairs[(turn + kind) % 3]))?;
         all.iter_mut()
             .zip(took)

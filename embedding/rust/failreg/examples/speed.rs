@@ -1,9 +1,10 @@
-//! Times `fail_point!` from Rust, by the clock: see bench/README.md.
+//! Times `fail_point!` in Rust: see bench/README.md.
 //!
-//!     speed KIND THREADS PASSES [PART [HOW..]]
+//!     speed KIND THREADS EVALUATIONS [JOURNAL [HOW..]]
 //!
-//! prints nanoseconds a pass, over all threads, and the bytes that a pass takes more of memory. With
-//! PART the node writes its part to this new file, `buffered` or `synced` where HOW says so.
+//! prints nanoseconds per evaluation, over all threads, and how many bytes of memory an evaluation
+//! adds. With JOURNAL the node writes its journal to this new file, `buffered` or `synced` if HOW
+//! says so.
 
 use failreg::{Registry, fail_point};
 use std::hint::black_box;

@@ -1,11 +1,11 @@
-//! Plays messages that no node made at a node, and says what came of them.
+//! Delivers forged messages to a node, and prints the results.
 //!
 //!     storm SEED MESSAGES
 //!
-//! They are messages that nodes made to node 0, with bytes altered, left out and doubled, cut short,
-//! and joined from two, and any bytes, up to 70,000 of them. A refused one must change nothing. What
-//! an accepted one tells must be spelled as a node spells it that knows just that. The status is 1
-//! where that isn't so of one, or where few were looked at.
+//! They are messages that nodes made for node 0, with bytes altered, left out and duplicated,
+//! truncated, and joined from two, and random bytes, up to 70,000 of them. A rejected one must
+//! change nothing. An accepted one must be spelled as a node with exactly this knowledge spells it.
+//! The status is 1 if one isn't, or if few were checked.
 
 use failreg::{Error, Registry};
 use std::collections::BTreeMap;
@@ -14,13 +14,13 @@ use std::process::ExitCode;
 
 const NODES: u8 = 32;
 
-/// The most bytes that a message has.
+/// The longest message, in bytes.
 const MOST_BYTES: usize = 70_000;
 
-/// After so many messages they are played at a node that knows nothing yet.
+/// After this many messages they are delivered to an empty node again.
 const MESSAGES_A_NODE: u64 = 1_000;
 
-/// Where in a message its sender stands, and what it acknowledges; the names are behind that.
+/// The positions of the sender and the acknowledgement in a message; the names follow.
 const SENDER: usize = 4;
 const ACKNOWLEDGED: Range<usize> = 22..30;
 
@@ -33,7 +33,7 @@ fn opened(number: u8) -> Result<Registry, Error> {
 fn real_messages() -> Result<Vec<Vec<u8>>, Error> {
     let mut real = messages_of_one_node()?;
     real.extend(messages_of_a_pair()?);
-    // A node 0 that is forgotten: what node 3 knows of it is more than a new node 0 knows.
+    // A node 0 that is discarded: node 3 knows more about it than a new node 0 does.
     let (forgotten, three) = (opened(0)?, opened(3)?);
     forgotten.load("e=3*off")?;
     forgotten.pass("e")?;
@@ -54,7 +54,7 @@ fn real_messages() -> Result<Vec<Vec<u8>>, Error> {
     Ok(real)
 }
 
-/// A point that is set, passed, shifted, granted and removed.
+/// A point that is set, evaluated, transferred, granted and removed.
 fn messages_of_one_node() -> Result<Vec<Vec<u8>>, Error> {
     let node = opened(1)?;
     node.load("a=20%3*print(hi)->2*off->panic")?;
@@ -69,7 +69,7 @@ fn messages_of_one_node() -> Result<Vec<Vec<u8>>, Error> {
     Ok(vec![set, passed, granted, node.emit(0)?])
 }
 
-/// Nodes that tell each other, and node 0.
+/// Nodes that send messages to each other and to node 0.
 fn messages_of_a_pair() -> Result<Vec<Vec<u8>>, Error> {
     let (one, other) = (opened(30)?, opened(31)?);
     one.load("b=4*off->print(x);c=2*return(7);d=off")?;
@@ -83,7 +83,7 @@ fn messages_of_a_pair() -> Result<Vec<Vec<u8>>, Error> {
     Ok(vec![first, one.emit(0)?, other.emit(0)?])
 }
 
-/// Draws numbers by SplitMix64. The same seed draws the same.
+/// Draws numbers by SplitMix64. The same seed draws the same numbers.
 struct Dice(u64);
 
 impl Dice {
@@ -94,7 +94,7 @@ impl Dice {
         mixed ^ (mixed >> 31)
     }
 
-    /// A number below this one, which isn't 0.
+    /// Returns a number below this one, which isn't 0.
     fn below(&mut self, bound: usize) -> usize {
         (self.word() % bound as u64) as usize
     }
@@ -107,17 +107,17 @@ impl Dice {
         &real[self.below(real.len())]
     }
 
-    /// The bytes before a place, perhaps all.
+    /// The bytes before a position, perhaps all.
     fn start_of<'a>(&mut self, bytes: &'a [u8]) -> &'a [u8] {
         &bytes[..self.below(bytes.len() + 1)]
     }
 
-    /// The bytes from a place on, perhaps all.
+    /// The bytes from a position on, perhaps all.
     fn end_of<'a>(&mut self, bytes: &'a [u8]) -> &'a [u8] {
         &bytes[self.below(bytes.len() + 1)..]
     }
 
-    /// With one to four bytes altered.
+    /// The bytes with one to four of them altered.
     fn altered(&mut self, bytes: &[u8]) -> Vec<u8> {
         let mut message = bytes.to_vec();
         for _ in 0..=self.below(4) {
@@ -127,7 +127,7 @@ impl Dice {
         message
     }
 
-    /// A message made from real ones, or of any bytes.
+    /// A message made from real ones, or random bytes.
     fn message(&mut self, real: &[Vec<u8>]) -> Vec<u8> {
         let one = self.one_of(real);
         let mut message = match self.below(8) {
@@ -148,16 +148,16 @@ impl Dice {
     }
 }
 
-/// All that a node shows and tells.
+/// Everything that a node shows and sends.
 #[derive(PartialEq)]
 struct Shown {
     list: String,
     version: u64,
-    /// Of each other node, its version that is known and the own one that it has.
+    /// For each other node, its known version and the acknowledged version of this one.
     versions: Vec<(u64, u64)>,
-    /// Of each point that is set, how often it was passed, and its terms ran.
+    /// For each point that is set, its evaluations and the executions of its terms.
     counts: Vec<u128>,
-    /// A message of all that the node knows, to one that isn't known to have anything.
+    /// A message with everything that the node knows, for a node without acknowledgements.
     message: Vec<u8>,
 }
 
@@ -186,7 +186,7 @@ impl Shown {
     }
 }
 
-/// What came of a message.
+/// The result of a message.
 enum Outcome {
     Accepted {
         changed: bool,
@@ -204,14 +204,14 @@ struct Victim {
     shown: Shown,
 }
 
-/// The number and the name of a fault, without its fields.
+/// The number and the name of an error, without its fields.
 fn code_of(error: &Error) -> String {
     let fault = error.fault().trim_start_matches("N16 BadMessage ");
     fault.split(' ').take(2).collect::<Vec<_>>().join(" ")
 }
 
-/// Whether what a message tells is spelled as a node spells it that knows just that; nothing where
-/// such a node refuses it, since it overspends what it doesn't tell of.
+/// Returns whether a message is spelled as a node with exactly this knowledge spells it; `None` if
+/// such a node rejects it, because it overspends rights that it doesn't mention.
 fn is_spelled_so(message: &[u8]) -> Result<Option<bool>, Error> {
     let node = opened(0)?;
     let mut unanswering = message.to_vec();
@@ -252,7 +252,7 @@ impl Victim {
     }
 }
 
-/// How many messages came to what.
+/// The number of messages by result.
 #[derive(Default)]
 struct Tally {
     kinds: BTreeMap<String, u64>,

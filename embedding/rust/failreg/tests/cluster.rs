@@ -1,4 +1,4 @@
-//! Nodes of one program: counts over threads, tasks, refusals.
+//! Nodes of one program: counts over threads, actions, errors.
 
 use failreg::{Error, ErrorKind, OnRefusal, Passed, Registry, Stamp, Task, fail_point};
 use std::sync::Arc;
@@ -138,7 +138,7 @@ fn a_point_that_is_not_set_takes_no_entry() {
         (runs(&a, 1000), a.is_set("p"), a.is_set("other")),
         (0, false, true)
     );
-    // Names that share a bit with one that is set are looked up, and aren't passed either.
+    // Names that share a bit with one that is set are looked up, and not evaluated either.
     (0..100_000).for_each(|n| assert_eq!(a.eval(&format!("p{n}")), None));
     assert_eq!(a.calls(), Ok(1));
     a.remove("other").unwrap();
@@ -168,17 +168,17 @@ fn a_site_remembers_settings_of_one_registry() {
     );
     a.set("spelled", "return").unwrap();
     assert_eq!((spelled(&a), spelled(&b)), (true, true));
-    // A set that only changes what a point does leaves which points are set.
+    // A set that only changes what a point does doesn't change which points are set.
     a.set("spelled", "1*return->off").unwrap();
     assert_eq!((spelled(&a), spelled(&a)), (true, false));
     a.remove("spelled").unwrap();
     assert_eq!((spelled(&a), spelled(&b)), (false, true));
-    // What another node sets is seen once its message is taken in.
+    // A configuration from another node is visible once its message is accepted.
     a.deliver(&b.emit(0).unwrap()).unwrap();
     assert_eq!(spelled(&a), a.is_set("spelled"));
     b.remove("spelled").unwrap();
     assert_eq!((spelled(&a), spelled(&b)), (false, false));
-    // A name that isn't spelled out at its `fail_point!` is another one each time.
+    // A name that isn't a literal may be another one each time.
     assert_eq!((named(&a, "spelled"), named(&a, "other")), (false, true));
     a.close();
     assert_eq!((spelled(&a), named(&a, "other")), (false, false));
@@ -194,8 +194,7 @@ fn before_it(node: &Registry) -> Option<String> {
     None
 }
 
-// The point has another number in each registry, and the site is passed for both in turn, by
-// threads.
+// The point has another number in each registry, and threads evaluate the site for both in turn.
 #[test]
 fn a_site_takes_no_number_of_another_registry() {
     let (a, b) = (
@@ -242,7 +241,7 @@ fn a_site_sees_each_change_that_came_before() {
 
 #[test]
 fn a_full_trace_is_told_once() {
-    // Counts what was told.
+    // Counts the reports.
     let times = Arc::new(AtomicUsize::new(0));
     let counted = times.clone();
     let builder = Registry::builder().cap(5);
@@ -363,7 +362,7 @@ fn a_callback_ends_with_its_setting() {
     ];
     for end in ends {
         let a = Arc::new(Registry::open(0, 2, 1000).unwrap());
-        // Count calls of the closure, and drops of it.
+        // Counts of calls of the closure, and of its drops.
         let (ran, dropped) = (Arc::new(AtomicUsize::new(0)), Arc::new(AtomicUsize::new(0)));
         let held = Dropped(a.clone(), dropped.clone());
         let counted = ran.clone();
@@ -397,7 +396,7 @@ fn a_message_ends_a_callback() {
     let run = move || _ = counted.fetch_add(1, Ordering::SeqCst);
     a.set_callback("p", run).unwrap();
     b.deliver(&a.emit(1).unwrap()).unwrap();
-    // To another node the point does nothing.
+    // At another node the point does nothing.
     assert_eq!((b.list().unwrap(), b.eval("p")), ("p=off".into(), None));
     assert_eq!((a.eval("p"), ran.load(Ordering::SeqCst)), (None, 1));
     b.set("p", "return").unwrap();

@@ -1,5 +1,5 @@
-//! Drills that are recorded here and audited by the program `failreg`, whose path FAILREG_PROGRAM
-//! is. `embedding/check` runs them; without the program they are ignored.
+//! Recordings that are made here and audited by the program `failreg`, whose path is
+//! FAILREG_PROGRAM. `embedding/check` runs them; without the program they are ignored.
 
 use failreg::{Registry, write_drill};
 use std::path::{Path, PathBuf};
@@ -11,14 +11,14 @@ fn program() -> Command {
     Command::new(std::env::var_os("FAILREG_PROGRAM").expect("FAILREG_PROGRAM is a path"))
 }
 
-/// The path of a file that isn't there.
+/// Returns the path of a file that doesn't exist.
 fn file(name: &str) -> PathBuf {
     let path = Path::new(env!("CARGO_TARGET_TMPDIR")).join(name);
     _ = std::fs::remove_file(&path);
     path
 }
 
-// What an audit of this drill prints.
+// Returns what an audit of this recording prints.
 fn audit(name: &str, drill: &str) -> String {
     let path = file(name);
     std::fs::write(&path, drill).unwrap();
@@ -55,7 +55,7 @@ fn pass_in_threads(nodes: [&Registry; 2]) {
     });
 }
 
-// A drill of two nodes with threads, and every kind of call.
+// A recording of two nodes with threads, and every kind of call.
 fn recorded() -> String {
     let open = |number| {
         let builder = Registry::builder().node(number).nodes(2).cap(10_000);
@@ -120,7 +120,7 @@ fn an_altered_drill_is_no_yes() {
     }
 }
 
-// The lines of the traces.
+// The lines of the call histories.
 fn traces(drill: &str) -> &str {
     &drill[..drill.find("{\"list\":").unwrap()]
 }

@@ -1,5 +1,5 @@
-//! The program's registry, which `setup` makes and FAILPOINTS sets: a program of its own, since
-//! there is one of each.
+//! The program's registry, opened by `setup` and configured by FAILPOINTS: a program of its own,
+//! because a process has one of each.
 
 use failreg::{ErrorKind, fail_point};
 
@@ -14,7 +14,7 @@ fn charge() -> u32 {
 #[test]
 fn failpoints_are_loaded_at_the_start() {
     assert_eq!(charge(), 0);
-    // SAFETY: this program has one test, and so one thread that looks at the environment.
+    // SAFETY: this program has one test, and so one thread that reads the environment.
     unsafe { std::env::set_var("FAILPOINTS", "charge") };
     let error = failreg::setup(0, 1, 1000).unwrap_err();
     assert_eq!((error.kind(), error.code()), (ErrorKind::BadText, Some(3)));

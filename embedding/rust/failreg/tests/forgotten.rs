@@ -1,4 +1,4 @@
-//! Nodes that were started again under their number, and have forgotten what they did.
+//! Nodes that restarted under their number without their journal.
 #![cfg(feature = "failpoints")]
 
 use failreg::{ErrorKind, OnForgotten, Peer, Registry, gossip, serve};
@@ -10,7 +10,7 @@ use std::time::{Duration, Instant};
 
 const SETTING: &str = "3*return->off";
 
-// Node 0 of two, which knows what node 1 did, and that node, started again.
+// Node 0 of two, which knows what node 1 did, and node 1, restarted.
 fn nodes(how: OnForgotten) -> (Registry, Registry) {
     let other = Registry::open(0, 2, 1000).unwrap();
     let was = Registry::open(1, 2, 1000).unwrap();

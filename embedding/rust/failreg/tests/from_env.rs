@@ -46,7 +46,7 @@ fn child() {
                 failreg::program().unwrap().hits("order")
             );
             assert!(failreg::from_env().is_err());
-            // Else a drop ends it.
+            // Otherwise a drop ends it.
             if std::env::var_os("FAILREG_CAP").is_none() {
                 program.finish().unwrap();
             }
@@ -58,7 +58,7 @@ fn child() {
     }
 }
 
-// What a process with these variables prints.
+// Returns what a process with these variables prints.
 fn told(set: &[(&str, &str)]) -> String {
     let mut process = Command::new(std::env::current_exe().unwrap());
     process.args(["--exact", "child", "--nocapture"]);
@@ -92,7 +92,7 @@ fn variables_make_the_registry() {
     assert!(second.contains("lost 2, Registry { node: 1, nodes: 3, cap: 500, .. }"));
 }
 
-// A variable, a value, and how it is told of.
+// A variable, a value, and the error.
 const BAD_VALUES: [(&str, &str, &str); 10] = [
     (
         "FAILREG_NODE",
@@ -179,7 +179,7 @@ fn a_key_lets_other_machines_in() {
 
 const SERVED: &str = "FAILREG_TEST_SERVED";
 
-// What the next tests run: it is served, and tells its peers, until `order` is removed.
+// What the next tests run: it is served, and gossips, until `order` is removed.
 #[test]
 fn served_child() {
     if std::env::var_os(SERVED).is_none() {
@@ -199,7 +199,7 @@ fn served_child() {
     println!("\nthe end");
 }
 
-/// A process that is served, in which `order` is set.
+/// A served process in which `order` is set.
 struct Served {
     process: Child,
     lines: Lines<BufReader<ChildStdout>>,
@@ -237,7 +237,7 @@ impl Served {
     }
 }
 
-// What follows this in the next line that begins with it.
+// Returns what follows this in the next line that begins with it.
 fn line_of(lines: &mut Lines<BufReader<ChildStdout>>, begin: &str) -> String {
     let mut lines = lines.map(Result::unwrap);
     let found = lines.find_map(|line| line.strip_prefix(begin).map(str::to_string));
@@ -294,7 +294,7 @@ fn a_part_is_written_call_by_call() {
         \"run\":\"night 7\",\"version\":1}\n";
     assert!(begun.starts_with(head), "{begun}");
     assert_eq!(begun.lines().count(), 6);
-    // FAILPOINTS isn't set again, and what is there stays.
+    // FAILPOINTS isn't loaded again, and the points stay.
     assert!(of(&[run, sync, buffer]).contains("lost 2, "));
     let gone_on = std::fs::read_to_string(&path).unwrap();
     assert!(gone_on.starts_with(&begun) && gone_on.lines().count() == 10);

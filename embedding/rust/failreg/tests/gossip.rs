@@ -1,4 +1,4 @@
-//! Registries that tell each other over HTTP.
+//! Registries that gossip over HTTP.
 
 mod clients;
 
@@ -20,20 +20,20 @@ fn serve_free(node: &Arc<Registry>) -> Serving {
     serve(node.clone(), (Ipv4Addr::LOCALHOST, 0)).unwrap()
 }
 
-// An address at which nobody listens.
+// Returns an address at which nobody listens.
 fn nobody() -> SocketAddr {
     let listener = TcpListener::bind("127.0.0.1:0").unwrap();
     listener.local_addr().unwrap()
 }
 
-// What is known of the only peer.
+// Returns what was sent to the only peer.
 fn news(gossip: &Gossip) -> PeerNews {
     let mut peers = gossip.peers();
     assert_eq!(peers.len(), 1);
     peers.remove(0)
 }
 
-/// Nodes that are served, and tell each other until this is dropped.
+/// Served nodes that gossip until this is dropped.
 struct Cluster {
     nodes: Vec<Arc<Registry>>,
     gossips: Vec<Gossip>,
@@ -59,7 +59,7 @@ impl Cluster {
         self.nodes.iter().map(|node| node.calls().unwrap()).sum()
     }
 
-    // Whether no node makes a call for ten rests between rounds.
+    // Returns whether no node makes a call for ten intervals.
     fn is_silent(&self) -> bool {
         let before = self.calls();
         thread::sleep(10 * EVERY);
@@ -82,7 +82,7 @@ fn nodes_share_a_count_and_fall_silent() {
         .iter()
         .all(|node| node.spent("p", 0) == Ok(5))));
     assert!(comes(|| nodes.iter().all(|node| node.hits("p") == Ok(27))));
-    // Then nobody has anything to tell, and no entry is made.
+    // Then there is nothing to send, and no entry is made.
     assert!(comes(|| cluster.is_silent()));
     let before = cluster.calls();
     thread::sleep(50 * EVERY);
@@ -106,7 +106,7 @@ fn rights_that_are_spread_are_at_each_node() {
     assert!(comes(|| all() == [Ok(2), Ok(2), Ok(1)]));
     let ran = |node: &Arc<Registry>| (0..9).filter(|_| node.eval("p").is_some()).count();
     assert_eq!(nodes.iter().map(ran).collect::<Vec<_>>(), [2, 2, 1]);
-    // What was spread is spread again as far as the node has some.
+    // What was spread is spread again, as far as the node has rights.
     assert_eq!(asked("POST", "/spread/p", ""), told(200, "0"));
     assert_eq!(
         nodes[1].set_spread("p", "1*return->2*panic").unwrap().clock,
@@ -143,7 +143,7 @@ fn rights_go_to_who_passes_where_that_is_asked_for() {
     cluster.gossips = gossips.collect();
     assert!(comes(|| passes(1) == 5));
     assert_eq!(passes(9), 5);
-    // Nobody passes, and nobody makes a call.
+    // Nobody evaluates, and nobody makes a call.
     assert!(comes(|| cluster.is_silent()));
 }
 
@@ -177,16 +177,16 @@ fn a_peer_that_answers_nothing_back_is_told_seldom() {
     let tells = gossip(node.clone(), &[Peer::new(1, serving.addr())], EVERY).unwrap();
     node.set("p", "off").unwrap();
     thread::sleep(Duration::from_secs(2));
-    // At 0, and behind 40, 80, 160, 320, 640 ms and so on, and not each 20 ms.
+    // At 0, and after 40, 80, 160, 320, 640 ms and so on, instead of every 20 ms.
     let messages = news(&tells).messages;
     assert!((2..=7).contains(&messages), "{messages}");
     assert_eq!(node.calls(), Ok(1 + messages));
-    // News are told at once.
+    // Changes are sent at once.
     node.set("q", "off").unwrap();
     assert!(comes(|| other.is_set("q")));
 }
 
-// A server that answers each client with this, once it has the head.
+// A server that sends each client this response, once it has the head.
 fn answering(reply: &'static str) -> SocketAddr {
     let listener = TcpListener::bind("127.0.0.1:0").unwrap();
     let addr = listener.local_addr().unwrap();
@@ -215,7 +215,7 @@ fn an_answer_other_than_200_is_a_failure() {
         node.set("p", "off").unwrap();
         assert!(comes(|| news(&tells).failures >= 2));
         let known = news(&tells);
-        // A connection that is cut with bytes unread is told as that.
+        // A connection that is closed with unread bytes is reported like this.
         let met = known.failure.unwrap().what;
         assert!(
             met == what || (reply.len() < 26 && met.contains("reset")),
@@ -227,7 +227,7 @@ fn an_answer_other_than_200_is_a_failure() {
 
 #[test]
 fn what_a_peer_refuses_is_a_failure() {
-    // A node that is started again under its number knows less of itself than its peer.
+    // A node that restarted under its number knows less about itself than its peer.
     let (node, before) = (open(0, 2), open(1, 2));
     before.set("p", "off").unwrap();
     node.deliver(&before.emit(0).unwrap()).unwrap();

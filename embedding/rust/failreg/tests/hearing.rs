@@ -1,4 +1,4 @@
-//! Nodes that hear the others before they take calls.
+//! Nodes that wait for messages from the others before they accept calls.
 #![cfg(feature = "failpoints")]
 
 mod clients;
@@ -18,7 +18,7 @@ fn open(number: u8) -> Registry {
     Registry::open(number, 3, 1000).unwrap()
 }
 
-// Node 1 of three, which hears the others first.
+// Node 1 of three, which waits for the others.
 fn hearing() -> Registry {
     let builder = Registry::builder().node(1).nodes(3);
     builder.hear_first(true).build().unwrap()
@@ -53,11 +53,11 @@ fn nothing_is_done_before_each_other_node_was_heard() {
             .to_string()
             .starts_with("point \"p\": not heard yet: node 0: calls ")
     );
-    // One of the two was heard, whose point does nothing yet.
+    // A message from one of the two arrived; its point does nothing yet.
     assert!(node.deliver(&first.emit(1).unwrap()).unwrap());
     assert!(!node.is_set("p") && node.eval("p").is_none());
     assert_eq!(refusals(&node), [ErrorKind::NotHeard; 10]);
-    // Reads and messages go on.
+    // Reads and messages work.
     assert_eq!(node.list().unwrap(), "p=2*return->off");
     node.emit(2).unwrap();
     for (method, path) in [("PUT", "/fail/p"), ("POST", "/load"), ("POST", "/nowhere")] {
@@ -71,7 +71,7 @@ fn nothing_is_done_before_each_other_node_was_heard() {
         assert_eq!(node.answer("GET", path, b"").unwrap().status, status);
     }
     assert_eq!(node.calls().unwrap(), 2);
-    // The last one has nothing to tell, and is heard as well.
+    // The last node sends an empty message, which counts as well.
     let reply = node
         .answer("POST", "/gossip", &last.emit(1).unwrap())
         .unwrap();
@@ -105,7 +105,7 @@ fn a_node_that_has_forgotten_does_nothing() {
         let message = first.emit(1).unwrap();
         let refused = node.deliver(&message).unwrap_err();
         assert_eq!(refused.kind(), ErrorKind::Forgotten);
-        // Who knows more of it isn't heard, whatever is done about that.
+        // A node that knows more about it stays missing, whatever `on_forgotten` does.
         let error = node.set("p", "3*return->off").unwrap_err();
         assert_eq!(error.kind(), ErrorKind::NotHeard);
         assert_eq!(node.eval("p"), None);
@@ -117,7 +117,7 @@ fn a_node_that_has_forgotten_does_nothing() {
     assert_eq!(*told.lock().unwrap(), [ErrorKind::Forgotten]);
 }
 
-// One of two nodes, served, which hears the other first.
+// One of two served nodes, which waits for the other.
 fn served(number: u8, addr: SocketAddr, on_forgotten: OnForgotten) -> (Arc<Registry>, Serving) {
     let builder = Registry::builder().node(number).nodes(2);
     let builder = builder.hear_first(true).on_forgotten(on_forgotten);
@@ -146,7 +146,7 @@ fn nodes_without_news_hear_each_other() {
     let is_told =
         || first.known(1) == Ok(1) && second.acked(0) == Ok(1) && first.acked(1) == first.version();
     assert!(comes(is_told));
-    // It is started again, and nobody has news for it: it asks.
+    // It restarts, and nobody has changes for it: it requests a message.
     drop((back, second, at_second));
     let calls = Arc::new(AtomicU32::new(0));
     let its = calls.clone();
@@ -167,7 +167,7 @@ fn one_that_hears_first_asks_those_that_do_not() {
     let _forth = telling(&first, 1, at_second.addr());
     let _back = telling(&second, 0, at_first.addr());
     assert!(comes(|| second.set("p", "return").is_ok()));
-    // Whoever asks is answered, also while calls wait.
+    // A node that requests a message gets one, even while calls wait.
     let (waiting, at_waiting) = served(0, any, OnForgotten::Stop);
     for (method, body, status) in [("POST", "1", 200), ("POST", "0", 400), ("GET", "", 405)] {
         assert_eq!(ask(at_waiting.addr(), method, "/hello", body).0, status);

@@ -1,4 +1,4 @@
-//! Registries whose clients and peers have to have a key.
+//! Registries whose clients and peers need a key.
 
 #![cfg(unix)]
 
@@ -15,7 +15,7 @@ use std::time::Duration;
 
 const EVERY: Duration = Duration::from_millis(20);
 
-// A file of these bytes, which its owner alone may read.
+// A file of these bytes, which only its owner may read.
 fn key_file(name: &str, bytes: &[u8]) -> PathBuf {
     let path = Path::new(env!("CARGO_TARGET_TMPDIR")).join(format!("key_{name}"));
     fs::write(&path, bytes).unwrap();
@@ -32,7 +32,7 @@ fn with_key(number: u8, nodes: u8, path: &Path) -> Arc<Registry> {
     Arc::new(builder.key_file(path).build().unwrap())
 }
 
-// What a node answers to a request with these fields: the status and the body.
+// Returns a node's response to a request with these fields: the status and the body.
 fn ask(addr: SocketAddr, line: &str, fields: &str, body: &str) -> (u16, String) {
     let length = body.len();
     let text = format!(
@@ -88,12 +88,12 @@ fn who_has_no_key_is_not_let_in() {
         Ok(0),
         "the node was asked nothing"
     );
-    // The page asks for the key, so it comes without one, and nothing is asked of the node.
+    // The page asks for the key, so it needs none, and doesn't reach the node.
     let (status, page) = ask(addr, "GET /", "", "");
     assert_eq!(status, 200);
     assert!(page.starts_with("<!DOCTYPE html>"), "{page:.40}");
     assert_eq!(ask(addr, "POST /", "", "").0, 401);
-    // Nothing of a body is waited for.
+    // It doesn't wait for a body.
     let head = format!("POST /load HTTP/1.1\r\nHost: {addr}\r\nContent-Length: 9000000\r\n\r\n");
     assert_eq!(&raw(addr, head.as_bytes())[9..12], "401");
     assert_eq!(ask(addr, "PUT /fail/a", &has, "2*off"), (200, "1.0".into()));
@@ -112,7 +112,7 @@ fn nodes_with_one_key_tell_each_other() {
     let node = with_key(1, 3, &path);
     let serving = serve(node.clone(), "127.0.0.1:0").unwrap();
     let addr = serving.addr();
-    // With another key, and without one, nobody is let in.
+    // With another key, and without one, no request succeeds.
     let foreign = [
         with_key(0, 3, &other),
         Arc::new(Registry::open(0, 3, 100).unwrap()),

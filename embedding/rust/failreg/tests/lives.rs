@@ -1,6 +1,6 @@
-//! Nodes that outlive their processes, which end in every way. Those whose parts are audited need the
-//! program `failreg`, whose path FAILREG_PROGRAM is. `embedding/check` runs them; without it they are
-//! ignored.
+//! Nodes that survive their processes, which end in every way. Tests that audit journals need the
+//! program `failreg`, whose path is FAILREG_PROGRAM. `embedding/check` runs them; without it they
+//! are ignored.
 
 mod clients;
 mod nodes;
@@ -15,7 +15,7 @@ use std::sync::Arc;
 use std::thread;
 use std::time::{Duration, Instant};
 
-// The children are processes of this program that run one test alone.
+// The children are processes of this program that run one test each.
 
 const PART: &str = "FAILREG_TEST_PART";
 const WAY: &str = "FAILREG_TEST_WAY";
@@ -34,7 +34,8 @@ fn child() {
     }
 }
 
-// A process of the program, by these words in front, that opens the part and ends this way.
+// A process of the program, started with these words in front, that opens the journal and ends in
+// this way.
 fn process(front: &[&str], path: &Path, way: &str) -> Command {
     let own = std::env::current_exe().unwrap();
     let mut process = match front {
@@ -67,7 +68,7 @@ fn pass_and_print(node: &Registry) {
     thread::sleep(Duration::from_micros(300));
 }
 
-// Passes by threads until the end, which comes by who started it, by an abort, or by `die`.
+// Evaluates in threads until the end, by the parent, by an abort, or by `die`.
 fn live(node: &'static Registry, way: &str) {
     if node.calls().unwrap() == 0 {
         node.load(SETTINGS).unwrap();
@@ -94,7 +95,8 @@ fn live(node: &'static Registry, way: &str) {
     unreachable!("the point panics");
 }
 
-// Lives of a node, each of which ends in the middle of passes; how often it ran, and its calls.
+// Runs a node several times, each time until it ends amid evaluations. Returns how often the point
+// ran, and the calls.
 fn lives(path: &Path, ways: &[&str], lives: u64) -> (u64, u64) {
     let (mut ran, mut calls) = (0, 0);
     for (life, way) in (1..=lives).zip(ways.iter().cycle()) {
@@ -109,7 +111,7 @@ fn lives(path: &Path, ways: &[&str], lives: u64) -> (u64, u64) {
         ran += lines.filter(|line| line == "ran").count() as u64;
         let status = child.wait().unwrap();
         assert!(!status.success(), "{way}: {status}");
-        // It is as it left itself, and has all that it told.
+        // It is as it was, with every result that was visible.
         let left = text_of(path).matches('\n').count() as u64 - 1;
         let node = open(path);
         assert_eq!(
@@ -129,7 +131,7 @@ fn lives(path: &Path, ways: &[&str], lives: u64) -> (u64, u64) {
 
 const WAYS: [&str; 3] = ["killed", "panics", "aborts"];
 
-/// Makes the calls of a part again at a node that never ended: its trace.
+/// Repeats the calls of a journal at a node that never ended. Returns its call history.
 fn never_ended(part: &str) -> String {
     let open = |number| builder().node(number).recording(true).build().unwrap();
     let nodes = [0, 1, 2].map(open);
@@ -156,7 +158,7 @@ fn a_node_outlives_its_processes() {
     let (ran, calls) = lives(&path, &WAYS, 21);
     let part = text_of(&path);
     let (_, trace) = part.split_once('\n').unwrap();
-    // Its draws are those of one that never ended, and so is all else.
+    // Its draws are those of a node that never ended, and so is everything else.
     assert!(trace == never_ended(&part), "{trace}");
     assert_eq!(trace.matches("[\"panic\",\"by the point\"]").count(), 7);
     assert!(ran > 20 && calls > 200, "{ran} of {calls}");
@@ -184,7 +186,7 @@ fn a_part_is_open_in_one_process() {
     assert_eq!(node.calls().unwrap(), 0);
 }
 
-// Passes until the file may not grow any more, and tells each time that the point ran.
+// Evaluates until the file may not grow any more, and prints each time that the point ran.
 fn fill(node: &Arc<Registry>) {
     let serving = serve(node.clone(), "127.0.0.1:0").unwrap();
     print("filling");
@@ -216,7 +218,7 @@ fn fill(node: &Arc<Registry>) {
         why.contains("an earlier call could not be recorded (File too large"),
         "{why}"
     );
-    // What only reads goes on, also for clients.
+    // Reads still work, also for clients.
     for path in ["/fail", "/report"] {
         assert_eq!(node.answer("GET", path, b"").unwrap().status, 200);
         assert_eq!(clients::ask(serving.addr(), "GET", path, "").0, 200);
@@ -243,13 +245,13 @@ fn a_full_disk_tells_no_call_that_is_not_in_the_part() {
         let node = open(&path);
         assert_eq!(node.calls().unwrap(), ran + 1);
         assert_eq!(node.spent("p", 0).unwrap(), u128::from(ran));
-        // With room it goes on.
+        // With room it continues.
         node.pass("p").unwrap();
         assert_eq!(calls_in(&text_of(&path)), ran + 2);
     }
 }
 
-/// What an audit of these parts prints.
+/// Returns what an audit of these journals prints.
 fn audit(parts: &[&Path]) -> String {
     let program = std::env::var_os("FAILREG_PROGRAM").expect("FAILREG_PROGRAM is a path");
     let ran = Command::new(program).arg("audit").args(parts).output();
@@ -279,7 +281,7 @@ fn what_outlived_its_processes_is_audited() {
     ] {
         assert!(told.contains(&budget), "{told}");
     }
-    // A part whose last line is cut short is named.
+    // A journal with an incomplete last line is named.
     let text = text_of(&paths[1]);
     fs::write(&paths[1], &text[..text.len() - 5]).unwrap();
     let told = audit(&parts);

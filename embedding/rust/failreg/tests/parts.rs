@@ -1,4 +1,4 @@
-//! What stands in the part of a node, which file is taken as one, and when its lines are written.
+//! The content of a node's journal, which file is accepted as one, and when its lines are written.
 
 mod clients;
 mod nodes;
@@ -15,7 +15,7 @@ fn refused(builder: Builder, path: &Path) -> (ErrorKind, String) {
     (error.kind(), error.to_string())
 }
 
-/// What a node knows and counts, for anybody who asks.
+/// What a node knows and counts.
 fn told_by(node: &Registry) -> String {
     let report = node.answer("GET", "/report", b"").unwrap();
     let others = [0, 2].map(|n| (node.known(n).unwrap(), node.acked(n).unwrap()));
@@ -30,7 +30,7 @@ fn told_by(node: &Registry) -> String {
 
 type Step = Box<dyn Fn(&Registry)>;
 
-/// Every kind of call, accepted and refused.
+/// Every kind of call, accepted and rejected.
 fn steps() -> Vec<Step> {
     let far = message("5*return(\"far\")->off");
     let mut steps: Vec<Step> = vec![
@@ -80,7 +80,7 @@ fn a_node_goes_on_as_if_it_had_never_ended() {
     for (number, step) in steps().iter().enumerate() {
         step(&node);
         step(&again);
-        // What waits to be written isn't lost by a drop either.
+        // A drop doesn't lose waiting lines either.
         drop(again);
         let buffered = builder().recording(&broken).buffered(number % 2 == 1);
         again = buffered.synced(number % 3 == 1).build().unwrap();
@@ -152,7 +152,7 @@ fn a_long_part_is_taken_again() {
     assert_eq!(node.calls().unwrap(), 20_002);
 }
 
-// A part with these files in its place is refused, of this kind and with these words, and stays.
+// A journal with these bytes is rejected, with this kind and these words, and stays unchanged.
 fn is_refused(builder: Builder, path: &Path, bytes: &[u8], kind: ErrorKind, words: &str) {
     fs::write(path, bytes).unwrap();
     let (met, text) = refused(builder, path);
@@ -203,7 +203,7 @@ fn another_file_is_refused_and_stays() {
     }
     is_bad(builder(), &[0xff; 100_000], none);
     is_bad(builder(), &[&b"\n"[..], &part].concat(), none);
-    // The beginning of another one's first line isn't ours to overwrite.
+    // The start of another first line isn't overwritten.
     is_bad(
         builder(),
         &part[..20].replace_in("\"cap\":1", "\"cap\":2"),
@@ -254,12 +254,12 @@ fn a_line_that_the_node_did_not_write_is_refused_by_its_number() {
         &part.replace_in("[\"return\",\"a\"]", "[\"off\"]"),
         &format!("line 3: {other}"),
     );
-    // A line that is left out, doubled, or in another place.
+    // A line that is left out, duplicated, or in another place.
     let without = |at: usize| [&lines[..at], &lines[at + 1..]].concat().concat();
     is_bad(without(1).as_bytes(), &format!("line 2: {other}"));
     let doubled = [&lines[..2], &lines[1..]].concat().concat();
     is_bad(doubled.as_bytes(), &format!("line 3: {other}"));
-    // One that is none, also where the last one isn't whole.
+    // A line that isn't one, even if the last one is incomplete.
     let none = "it is no line of a call: ";
     for bad in ["\n", "{}\n", "null\n", "pass p\n", lines[0], "\0\0\n"] {
         let with = format!("{}{bad}{}", lines[..3].concat(), lines[3..].concat());
@@ -303,7 +303,7 @@ fn a_part_with_an_altered_byte_is_refused_or_taken_as_it_is() {
         assert!(fs::read(&path).unwrap() == altered[..kept], "byte {at}");
         cut += u32::from(kept < altered.len());
     }
-    // The last line alone may lose its end.
+    // Only the last line may lack its end.
     assert_eq!(cut, 1);
 }
 
@@ -341,7 +341,7 @@ fn a_part_is_open_once() {
         text.contains("it is open already, in this process or another: end that process"),
         "{text}"
     );
-    // One that is closed gives it up.
+    // A closed registry releases it.
     node.close();
     let again = builder().recording(&path).buffered(true).build().unwrap();
     assert_eq!(again.calls().unwrap(), 1);
@@ -451,7 +451,7 @@ fn lines_of_passes_that_took_no_right_may_wait() {
     let lines = || calls_in(&text_of(&path));
     node.load("p=1*return->off;free=off;chance=50%off").unwrap();
     assert_eq!(lines(), 1);
-    // By name, by number, and of a point that isn't set. It is written within a while by itself.
+    // By name, by number, and of a point that isn't set. It is written soon by itself.
     let begun = Instant::now();
     for _ in 0..3 {
         node.pass("free").unwrap();
@@ -464,18 +464,18 @@ fn lines_of_passes_that_took_no_right_may_wait() {
         "{waited} lines"
     );
     assert!(clients::comes(|| lines() == 10));
-    // A counted term is written at once, with what waits.
+    // A counted term is written at once, with the waiting lines.
     node.pass("free").unwrap();
     assert!(passed(&node));
     assert_eq!(lines(), 12);
     assert!(!passed(&node) && !passed(&node));
-    // So is what others may see: a message, and what an operator reads.
+    // So is what others may see: a message, and an operator's read.
     node.emit(0).unwrap();
     assert_eq!(lines(), 15);
     node.pass("free").unwrap();
     node.answer("GET", "/report", b"").unwrap();
     assert_eq!(lines(), 16);
-    // Another setting of the same name counts.
+    // A new configuration of the same name counts.
     node.set("free", "3*off->off").unwrap();
     for lines_by_now in 18..21 {
         node.pass("free").unwrap();

@@ -1,5 +1,6 @@
-//! Drills that are written while the nodes are called. Those that are audited need the program
-//! `failreg`, whose path FAILREG_PROGRAM is. `embedding/check` runs them; without it they are ignored.
+//! Recordings that are written while the nodes are called. Tests that audit them need the program
+//! `failreg`, whose path is FAILREG_PROGRAM. `embedding/check` runs them; without it they are
+//! ignored.
 
 use failreg::{Builder, ErrorKind, OnRefusal, Recorder, Registry, write_drill};
 use std::collections::BTreeMap;
@@ -12,14 +13,14 @@ use std::sync::{Arc, Mutex};
 const THREADS: usize = 4;
 const PASSES: usize = 2_500;
 
-/// The path of a new file.
+/// Returns the path of a new file.
 fn new_file(name: &str) -> PathBuf {
     let path = Path::new(env!("CARGO_TARGET_TMPDIR")).join(name);
     let _ = std::fs::remove_file(&path);
     path
 }
 
-/// What an audit of this drill prints.
+/// Returns what an audit of this recording prints.
 fn audit(path: &Path) -> String {
     let program = std::env::var_os("FAILREG_PROGRAM").expect("FAILREG_PROGRAM is a path");
     let ran = Command::new(program).arg("audit").arg(path).output();
@@ -27,7 +28,7 @@ fn audit(path: &Path) -> String {
     String::from_utf8([ran.stdout, ran.stderr].concat()).expect("a text")
 }
 
-/// Takes all bytes, until it is told to fail.
+/// Accepts all bytes, until it is set to fail.
 #[derive(Clone, Default)]
 struct Shared {
     taken: Arc<Mutex<Vec<u8>>>,
@@ -58,7 +59,7 @@ impl Write for Shared {
     }
 }
 
-/// A drill in pieces, told whole.
+/// Returns a recording in pieces as one in whole.
 fn whole(drill: &str) -> String {
     let mut parts: BTreeMap<(bool, u32), String> = BTreeMap::new();
     let mut part = (false, 0);
@@ -148,7 +149,7 @@ fn passes_by_four_threads_are_audited() {
         audit(&path),
         "audit yes\nbudget p 1.0 0 count=1000 executed=1000\n"
     );
-    // Nobody writes over it.
+    // Nobody overwrites it.
     assert!(Recorder::create(&path).is_err());
 }
 
@@ -187,12 +188,12 @@ fn a_piece_that_is_lost_is_found() {
     (0..4).for_each(|_| drop(node.pass("p").unwrap()));
     let drill = std::fs::read_to_string(&path).unwrap();
     let lines: Vec<&str> = drill.split_inclusive('\n').collect();
-    // What stands behind each whole call is a drill of the calls so far.
+    // After each whole call the file is a recording of the calls so far.
     for calls in 0..5 {
         std::fs::write(&path, lines[..3 + 4 * calls].concat()).unwrap();
         assert!(audit(&path).starts_with("audit yes\n"), "{calls} calls");
     }
-    // A call that is left out is met at the next line.
+    // A missing call is found at the next line.
     let left_out = [&lines[..7], &lines[11..]].concat().concat();
     std::fs::write(&path, left_out).unwrap();
     assert_eq!(audit(&path), "refused P5 BadLine line=8\n");
@@ -215,11 +216,11 @@ fn a_call_that_cannot_be_written_says_so() {
     assert!(node.eval("p").is_some());
     let before = (shared.text(), node.calls().unwrap());
     shared.fail();
-    // The point does nothing, and that is told once.
+    // The point does nothing, which is reported once.
     assert!((0..3).all(|_| node.eval("p").is_none()));
     assert_eq!(*told.lock().unwrap(), [ErrorKind::NotRecorded]);
     assert_eq!(node.calls().unwrap(), before.1 + 1);
-    // No call is made any more, and readers answer.
+    // No call is accepted any more, and reads work.
     let kinds = [
         node.pass("p").map(drop),
         node.set("q", "off").map(drop),

@@ -1,5 +1,5 @@
-//! What a registry that writes its drill, or its part, keeps of its calls: nothing. The memory of this
-//! program is counted, so that no other test runs in it.
+//! A registry that writes a recording or a journal stores nothing of its calls. The memory of this
+//! program is counted, so no other test runs in it.
 
 use failreg::{Recorder, Registry};
 use std::alloc::{GlobalAlloc, Layout, System};
@@ -57,7 +57,7 @@ fn a_registry_that_writes_keeps_no_call() {
     let open = || Registry::builder().recording(path).build().unwrap();
     let before = IN_USE.load(Ordering::Relaxed);
     keeps_nothing(&open());
-    // Nor does one that goes on from its part.
+    // Nor does one that resumes from its journal.
     let node = open();
     let after = IN_USE.load(Ordering::Relaxed);
     assert!(after < before + 16_384, "{before} bytes, then {after}");

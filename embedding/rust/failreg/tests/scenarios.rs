@@ -1,12 +1,12 @@
-//! Scenarios of a program whose node is one of several: it forgets nothing. A program of its own,
-//! since there is one registry of each.
+//! Scenarios of a program whose node is one of several: it keeps its history. A program of its own,
+//! because a process has one registry.
 
 use failreg::{FailScenario, OnRefusal, Registry, cfg, cfg_callback, list};
 use std::sync::Arc;
 use std::sync::atomic::{AtomicUsize, Ordering};
 use std::thread;
 
-/// How often a refused pass was told of. It guards nothing.
+/// How often a rejected evaluation was reported. It orders no memory access.
 static TOLD: AtomicUsize = AtomicUsize::new(0);
 
 fn passed(node: &'static Registry, name: &'static str) -> bool {
@@ -24,7 +24,7 @@ fn a_node_of_several_removes_its_points() {
 }
 
 fn points_are_removed(node: &'static Registry) {
-    // Counted once by each callback that is there.
+    // Each existing callback counts once.
     let held = Arc::new(AtomicUsize::new(0));
     let scenario = FailScenario::setup();
     cfg("waits", "pause").unwrap();
@@ -40,7 +40,7 @@ fn points_are_removed(node: &'static Registry) {
     assert!(!waits.join().unwrap());
     assert!(list().is_empty() && !passed(node, "returns"));
     assert_eq!(Arc::strong_count(&held), 1);
-    // Three settings, a pass, and three removals.
+    // Three configurations, an evaluation, and three removals.
     assert_eq!(node.calls(), Ok(7));
 }
 
@@ -60,7 +60,7 @@ fn the_cap_is_met(node: &'static Registry) {
     let told = *caught.unwrap_err().downcast::<String>().unwrap();
     let begin = "failpoints can't be set up: N1 TraceFull: ";
     assert!(told.starts_with(begin), "{told}");
-    // The points do nothing from then on, and that was told once.
+    // The points do nothing from then on, which was reported once.
     assert!(!passed(node, "returns"));
     assert_eq!(TOLD.load(Ordering::SeqCst), 1);
 }

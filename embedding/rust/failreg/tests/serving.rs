@@ -1,4 +1,4 @@
-//! Registries that are served over HTTP, by clients that behave and by those that don't.
+//! Registries that are served over HTTP, with well-behaved clients and adversarial ones.
 
 mod clients;
 
@@ -25,7 +25,7 @@ fn served(nodes: u8) -> (Arc<Registry>, Serving, SocketAddr) {
     (node, serving, addr)
 }
 
-// The status of a reply, or 0 where there is none.
+// The status of a response, or 0 without one.
 fn status_of(reply: &str) -> u16 {
     reply.get(9..12).map_or(0, |digits| digits.parse().unwrap())
 }
@@ -88,7 +88,7 @@ fn each_request_is_answered() {
         let body = told.as_bytes().to_vec();
         assert_eq!(reply, Reply { status: 200, body });
     }
-    // A program's own server may hand on a body of any length.
+    // A program's own server may pass a body of any length.
     let reply = node
         .answer("POST", "/gossip", &vec![0; 67_108_865])
         .unwrap();
@@ -142,13 +142,13 @@ fn an_operator_gets_the_page() {
     assert!(page.starts_with("<!DOCTYPE html>") && page.ends_with("</html>\n"));
 }
 
-// What is answered to a request with these fields behind its Host.
+// Returns the response to a request with these fields after its Host.
 fn get(addr: SocketAddr, path: &str, fields: &str) -> String {
     let head = format!("GET {path} HTTP/1.1\r\nHost: localhost\r\n{fields}\r\n");
     raw(addr, head.as_bytes())
 }
 
-// The tag of a reply, if it has one, and the body.
+// The tag of a response, if it has one, and the body.
 fn tag_and_body(reply: &str) -> (Option<&str>, &str) {
     let (head, body) = reply.split_once("\r\n\r\n").unwrap();
     let tag = head.lines().find_map(|line| line.strip_prefix("etag: "));
@@ -175,7 +175,7 @@ fn the_status_alone_has_a_tag() {
         let other = get(addr, path, any);
         assert_eq!((status_of(&other), tag_and_body(&other).0), (status, None));
     }
-    // Who isn't let in is told why, whatever it has.
+    // A client without access is told why, whatever its tag.
     let foreign = get(addr, "/status", &format!("Origin: null\r\n{any}"));
     assert_eq!((status_of(&foreign), tag_and_body(&foreign).0), (403, None));
 }
@@ -204,7 +204,7 @@ fn who_has_the_status_is_not_sent_it_again() {
     assert_eq!(status_of(&get(addr, "/status", &has)), 304);
 }
 
-// What an audit prints of a drill, whose file has this name.
+// Returns what an audit of a recording with this name prints.
 fn audit(name: &str, nodes: &[&Registry]) -> String {
     let path = Path::new(env!("CARGO_TARGET_TMPDIR")).join(name);
     let mut file = std::fs::File::create(&path).unwrap();
@@ -242,7 +242,7 @@ fn what_requests_ask_for_is_in_the_drill() {
     );
 }
 
-// What is sent behind `PUT /fail/p HTTP/1.1` and a Host: fields, the body, and the status.
+// What follows `PUT /fail/p HTTP/1.1` and a Host: fields, the body, and the status.
 const BAD_FIELDS: [(&str, &str, u16); 15] = [
     ("X: y\n", "", 400),
     ("X y\r\n", "", 400),
@@ -333,7 +333,7 @@ fn a_head_may_have_8192_bytes() {
     // An empty text is no action.
     assert!(raw(addr, head_of(8_192).as_bytes()).contains(" 400 Bad Request\r\n"));
     assert!(raw(addr, head_of(8_193).as_bytes()).contains(" 431 "));
-    // Also where its end comes in a piece that began before.
+    // Even if its end arrives in a piece that began before.
     let mut stream = TcpStream::connect(addr).unwrap();
     let head = head_of(8_200);
     stream.write_all(&head.as_bytes()[..8_190]).unwrap();
@@ -375,13 +375,13 @@ fn who_sends_on_after_a_refusal_reads_it() {
         let mut stream = TcpStream::connect(addr).unwrap();
         stream.write_all(put(fields, &body).as_bytes()).unwrap();
         let mut reply = String::new();
-        // No reset comes before or behind it.
+        // No reset comes before or after it.
         stream.read_to_string(&mut reply).unwrap();
         assert_eq!(status_of(&reply), status);
     }
 }
 
-// A stream of bytes that look like any, the same in each run.
+// A stream of random bytes, the same in each run.
 fn noise() -> impl Iterator<Item = u8> {
     let mut state = 0x2545_f491_4f6c_dd1d_u64;
     std::iter::repeat_with(move || {
@@ -398,7 +398,7 @@ fn garbage_changes_nothing() {
     let mut noise = noise();
     for length in (0..600).step_by(3) {
         let bytes: Vec<u8> = noise.by_ref().take(length).collect();
-        // The client goes at once, most often before it is answered.
+        // The client leaves at once, mostly before the response.
         let mut stream = TcpStream::connect(addr).unwrap();
         stream.write_all(&bytes).unwrap();
     }
@@ -430,7 +430,7 @@ fn a_request_may_come_in_pieces() {
     assert!(rest_of(&mut stream).ends_with("\r\n\r\n1.0"));
 }
 
-// A client that asks whether to send a body of so many bytes.
+// A client that asks whether to send a body of this length.
 fn expecting(addr: SocketAddr, length: usize) -> TcpStream {
     let mut stream = TcpStream::connect(addr).unwrap();
     let head = format!(
@@ -441,7 +441,7 @@ fn expecting(addr: SocketAddr, length: usize) -> TcpStream {
     stream
 }
 
-// Whether it is told to go on, within this time.
+// Whether it may continue, within this time.
 fn is_told_to_go_on(stream: &mut TcpStream, time: Duration) -> bool {
     stream.set_read_timeout(Some(time)).unwrap();
     let mut told = [0; 25];
@@ -516,7 +516,7 @@ fn sixty_four_clients_are_served_at_once_and_the_next_one_waits() {
     assert!(!is_told_to_go_on(&mut next, A_WHILE));
     drop(silent.pop());
     assert!(is_told_to_go_on(&mut next, SOON));
-    // While all places are taken the service can end.
+    // The service can end while all places are taken.
     let begun = Instant::now();
     serving.stop();
     assert!(
@@ -595,14 +595,14 @@ fn a_panic_ends_one_client_alone() {
     node.set_callback("p", move || _ = &bad).unwrap();
     let request = put("Content-Length: 6\r\n", "return");
     assert_eq!(raw(addr, request.as_bytes()), "");
-    // What it asked for was done, and the others are served.
+    // Its request was carried out, and the others are served.
     assert_eq!(ask(addr, "GET", "/fail", ""), (200, "p=return".into()));
     assert_eq!(node.eval("p"), Some(None));
     serving.stop();
     assert_eq!(Arc::strong_count(&node), 1);
 }
 
-// Says so when it is dropped, so that what was before is seen by who reads it.
+// Notes when it is dropped, so that a thread that reads the note sees everything before it.
 struct Held(Arc<AtomicBool>);
 
 impl Drop for Held {
@@ -624,7 +624,7 @@ fn a_callback_that_is_over_is_dropped_by_a_request() {
     assert_eq!(node.eval("p"), Some(None));
 }
 
-// Asks the registry when it is dropped.
+// Calls the registry when it is dropped.
 struct Asks(Arc<Registry>);
 
 impl Drop for Asks {
@@ -659,7 +659,7 @@ fn a_full_trace_ends_the_points() {
         move || node.eval("p")
     });
     assert!(comes(|| node.calls() == Ok(2)));
-    // Reading goes on, and nothing changes any more; threads that pause go on.
+    // Reads still work, and nothing changes any more; paused threads continue.
     assert_eq!(ask("GET", "/fail", ""), (200, "p=pause".into()));
     assert_eq!(ask("DELETE", "/fail/p", ""), (503, "N1 TraceFull".into()));
     assert!(comes(|| paused.is_finished()), "it goes on");
@@ -702,7 +702,7 @@ fn an_address_is_one_of_this_machine_and_free() {
     let error = serve(open(0, 1), "nowhere").unwrap_err();
     assert_eq!(error.kind(), ErrorKind::CantListen);
     assert!(error.to_string().starts_with("address \"nowhere\": "));
-    // Of these there is more than one on a machine.
+    // A machine has more than one of these.
     for addr in ["127.0.0.2:0", "[::1]:0"] {
         if TcpListener::bind(addr).is_ok() {
             let serving = serve(open(0, 1), addr).unwrap();
@@ -714,8 +714,8 @@ fn an_address_is_one_of_this_machine_and_free() {
     }
 }
 
-// One turn of a thread: it sets, removes or takes in, passes two points and asks for a report.
-// Answers whether `counted` ran.
+// One turn of a thread: it sets, removes or accepts a message, evaluates two points and reads a
+// report. Returns whether `counted` ran.
 fn take_turn(node: &Registry, addr: SocketAddr, message: &[u8], number: u32, turn: u32) -> bool {
     let name = format!("p{}", turn % 3);
     let path = format!("/fail/{name}");

@@ -72,11 +72,11 @@ fn what_reads_tells_of_nothing() {
     assert_eq!(kind(Registry::open(0, 33, 10)), ErrorKind::BadConfig);
 }
 
-// One test, since there is one environment and one registry.
+// One test, because there is one environment and one registry.
 #[test]
 fn the_program_starts_where_nothing_is_asked_for() {
     let points = "value=return";
-    // SAFETY: no other test of this program looks at the environment.
+    // SAFETY: no other test of this program reads the environment.
     unsafe { std::env::set_var("FAILPOINTS", points) };
     for told in [kind(failreg::setup(0, 1, 10)), kind(failreg::from_env())] {
         assert_eq!(told, ErrorKind::Disabled);

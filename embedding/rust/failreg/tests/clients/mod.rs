@@ -1,4 +1,4 @@
-//! Clients of nodes that are served. Not every test uses all of them.
+//! Clients of served nodes. Not every test uses all of them.
 
 #![allow(dead_code)]
 
@@ -6,7 +6,7 @@ use std::io::{Read, Write};
 use std::net::{SocketAddr, TcpStream};
 use std::time::{Duration, Instant};
 
-/// What a node answers: the status and the body.
+/// A node's response: the status and the body.
 pub fn ask(addr: SocketAddr, method: &str, path: &str, body: &str) -> (u16, String) {
     let length = body.len();
     let head = format!(
@@ -17,15 +17,16 @@ pub fn ask(addr: SocketAddr, method: &str, path: &str, body: &str) -> (u16, Stri
     (head[9..12].parse().expect("a status"), body.to_string())
 }
 
-/// All that a node sends to a client that sends these bytes and no end; nothing where it just goes.
+/// Everything that a node sends to a client that sends these bytes and no end; nothing if it just
+/// closes.
 pub fn raw(addr: SocketAddr, bytes: &[u8]) -> String {
     let mut stream = TcpStream::connect(addr).expect("somebody listens");
-    // It fails where the node has answered and gone before it was sent all.
+    // It fails if the node has responded and closed before everything was sent.
     let _ = stream.write_all(bytes);
     rest_of(&mut stream)
 }
 
-/// What a node sends until it goes.
+/// Everything that a node sends until it closes.
 pub fn rest_of(stream: &mut TcpStream) -> String {
     stream
         .set_read_timeout(Some(Duration::from_secs(20)))
@@ -37,7 +38,7 @@ pub fn rest_of(stream: &mut TcpStream) -> String {
     }
 }
 
-/// Whether it comes, within ten seconds.
+/// Whether it happens within ten seconds.
 pub fn comes(mut it: impl FnMut() -> bool) -> bool {
     let end = Instant::now() + Duration::from_secs(10);
     while Instant::now() < end {

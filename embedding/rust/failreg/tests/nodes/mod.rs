@@ -1,4 +1,4 @@
-//! A node that keeps its part in a file. Not every test uses all of this.
+//! A node with a journal in a file. Not every test uses all of this.
 
 #![allow(dead_code)]
 
@@ -9,7 +9,7 @@ use std::path::{Path, PathBuf};
 /// The seed of its draws.
 const SEED: [u8; 32] = [0x9a; 32];
 
-/// The path of a file that isn't there.
+/// Returns the path of a file that doesn't exist.
 pub fn new_file(name: &str) -> PathBuf {
     let path = Path::new(env!("CARGO_TARGET_TMPDIR")).join(format!("part_{name}"));
     _ = fs::remove_file(&path);
@@ -20,7 +20,7 @@ pub fn text_of(path: &Path) -> String {
     fs::read_to_string(path).expect("a text")
 }
 
-/// How many calls a part has.
+/// Returns how many calls a journal has.
 pub fn calls_in(part: &str) -> u64 {
     part.lines().count() as u64 - 1
 }
@@ -36,7 +36,7 @@ pub fn open(path: &Path) -> Registry {
         .expect("the part is taken")
 }
 
-/// A message of node 0 to this one, which sets a point to it by then.
+/// A message of node 0 to this one, which has set a point to it by then.
 pub fn message(actions: &str) -> Vec<u8> {
     let other = Registry::open(0, 3, 100).unwrap();
     other.set("far", actions).unwrap();
