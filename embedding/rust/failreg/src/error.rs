@@ -193,7 +193,7 @@ impl Error {
 
     pub(crate) fn at_part(self, path: &Path) -> Error {
         Error {
-            at: Some(format!("part {path:?}")),
+            at: Some(format!("journal {path:?}")),
             ..self
         }
     }

@@ -78,8 +78,8 @@ impl Node {
             sys::FAILREG_E_CLOSED => "the registry is closed".into(),
             sys::FAILREG_E_NO_POINT => "no point has the number".into(),
             sys::FAILREG_E_NO_ENTRY => "the node stores no call with this number".into(),
-            sys::FAILREG_E_NO_LINE => "it is no line of a call".into(),
-            sys::FAILREG_E_DIFFERS => "replaying the call gives another result".into(),
+            sys::FAILREG_E_NO_LINE => "not a line of a call".into(),
+            sys::FAILREG_E_DIFFERS => "the call does not replay".into(),
             _ => match self.last_fault() {
                 Some(fault) => fault.into(),
                 None => format!("N{status}").into(),

@@ -214,7 +214,7 @@ fn bad(fault: String) -> Error {
 }
 
 fn unread(error: io::Error) -> Error {
-    bad(format!("it can't be read ({error})"))
+    bad(format!("cannot read ({error})"))
 }
 
 // Returns the locked file, positioned for the next line, after the node replayed it.
@@ -237,20 +237,20 @@ fn open(path: &Path, made: &Builder, node: &mut Node) -> Result<File, Error> {
 fn locked(path: &Path) -> Result<File, Error> {
     let mut options = OpenOptions::new();
     let opened = options.read(true).append(true).create(true).open(path);
-    let file = opened.map_err(|error| bad(format!("it can't be opened ({error})")))?;
+    let file = opened.map_err(|error| bad(format!("cannot open ({error})")))?;
     if !file.metadata().map_err(unread)?.is_file() {
-        return Err(bad("it is no file".into()));
+        return Err(bad("not a regular file".into()));
     }
     for _ in 0..TRIES {
         match file.try_lock() {
             Ok(()) => return Ok(file),
             Err(TryLockError::WouldBlock) => thread::sleep(REST),
             Err(TryLockError::Error(error)) => {
-                return Err(bad(format!("it can't be locked ({error})")));
+                return Err(bad(format!("cannot lock ({error})")));
             }
         }
     }
-    let fault = "it is open already, in this process or another";
+    let fault = "already open in this process or another";
     Err(Error::new(ErrorKind::PartInUse, fault))
 }
 
@@ -288,7 +288,11 @@ fn resume(file: &File, head: &str, node: &mut Node) -> Result<u64, Error> {
         match line.strip_suffix(b"\n") {
             Some(call) => node.repeat(call).map_err(|error| in_line(number, error))?,
             None if line.len() < MOST_OF_LINE => break,
-            None => return Err(bad(format!("line {number} is longer than that of a call"))),
+            None => {
+                return Err(bad(format!(
+                    "line {number} is longer than a line of a call"
+                )));
+            }
         }
         whole += line.len() as u64;
         if number.is_multiple_of(u64::from(MOST_KEPT)) {
@@ -315,7 +319,7 @@ fn in_line(number: u64, error: Error) -> Error {
 fn differences(met: &str, head: &str) -> String {
     let (met, own) = (members(met), members(head));
     if !met.contains(&("failreg", "\"part\"")) {
-        return "it is no part of a node".into();
+        return "not a node's journal".into();
     }
     let other = own.iter().filter_map(|(name, own)| {
         let met = met
@@ -326,8 +330,8 @@ fn differences(met: &str, head: &str) -> String {
     });
     let told: Vec<String> = other.collect();
     match told.is_empty() {
-        true => "its first line isn't as a node writes it".into(),
-        false => format!("it isn't this node's: {}", told.join(", ")),
+        true => "its first line has another form".into(),
+        false => format!("not this node's: {}", told.join(", ")),
     }
 }
 
@@ -490,21 +494,20 @@ mod tests {
             ("n\":1}", "n\":2}", "version is 2 there and 1 here"),
         ];
         for (from, to, wanted) in rows {
-            assert_eq!(told(from, to), format!("it isn't this node's: {wanted}"));
+            assert_eq!(told(from, to), format!("not this node's: {wanted}"));
         }
-        let wanted =
-            "it isn't this node's: node is 0 there and 1 here, nodes is 1 there and 3 here";
+        let wanted = "not this node's: node is 0 there and 1 here, nodes is 1 there and 3 here";
         assert_eq!(
             told("\"node\":1,\"nodes\":3", "\"node\":0,\"nodes\":1"),
             wanted
         );
         assert_eq!(
             told("}\n", " }\n"),
-            "it isn't this node's: version is 1  there and 1 here"
+            "not this node's: version is 1  there and 1 here"
         );
         assert_eq!(
             told("{", "[{"),
-            "it isn't this node's: cap is nothing there and 9 here"
+            "not this node's: cap is nothing there and 9 here"
         );
         for other in [
             "",
@@ -513,11 +516,11 @@ mod tests {
             "{\"failreg\":\"drill\",\"version\":1}\n",
             "\0\0",
         ] {
-            assert_eq!(differences(other, HEAD), "it is no part of a node");
+            assert_eq!(differences(other, HEAD), "not a node's journal");
         }
         assert_eq!(
             differences(HEAD.trim_end(), HEAD),
-            "its first line isn't as a node writes it"
+            "its first line has another form"
         );
     }
 }

@@ -127,12 +127,12 @@ const BAD_VALUES: [(&str, &str, &str); 10] = [
     (
         "FAILREG_PEERS",
         "a:1",
-        "BadVariable FAILREG_PEERS=\"a:1\": wanted are ",
+        "BadVariable FAILREG_PEERS=\"a:1\": expected other nodes",
     ),
     (
         "FAILREG_PEERS",
         "1:7070",
-        "BadPeer FAILREG_PEERS: address 127.0.0.1:7070: there is no ",
+        "BadPeer FAILREG_PEERS: address 127.0.0.1:7070: a cluster of 1 has no ",
     ),
     (
         "FAILPOINTS",
@@ -142,7 +142,7 @@ const BAD_VALUES: [(&str, &str, &str); 10] = [
     (
         "FAILREG_RECORD",
         "/nowhere/at/all",
-        "BadPart FAILREG_RECORD: part \"/nowhere/at/all\": it can't be opened (",
+        "BadPart FAILREG_RECORD: journal \"/nowhere/at/all\": cannot open (",
     ),
 ];
 
@@ -302,7 +302,7 @@ fn a_part_is_written_call_by_call() {
     let whole = std::fs::read_to_string(&path).unwrap();
     assert_eq!(whole.lines().count(), 14);
     let other = of(&[]);
-    let wanted = "BadPart FAILREG_RECORD: part ";
+    let wanted = "BadPart FAILREG_RECORD: journal ";
     let why = "run is \"night 7\" there and \"\" here";
     assert!(other.contains(wanted) && other.contains(why), "{other}");
     assert_eq!(std::fs::read_to_string(&path).unwrap(), whole);

@@ -159,7 +159,7 @@ fn is_refused(builder: Builder, path: &Path, bytes: &[u8], kind: ErrorKind, word
     let start: String = String::from_utf8_lossy(bytes).chars().take(60).collect();
     assert_eq!(met, kind, "{start}: {text}");
     assert!(
-        text.starts_with(&format!("part {path:?}: {words}")),
+        text.starts_with(&format!("journal {path:?}: {words}")),
         "{text}"
     );
     assert!(fs::read(path).unwrap() == bytes, "{start} stays");
@@ -176,7 +176,7 @@ fn another_file_is_refused_and_stays() {
     let is_bad = |builder: Builder, bytes: &[u8], words: &str| {
         is_refused(builder, &path, bytes, ErrorKind::BadPart, words);
     };
-    let other = "it isn't this node's: ";
+    let other = "not this node's: ";
     let node = |number| format!("{other}node is 1 there and {number} here: ");
     is_bad(builder().node(0), &part, &node(0));
     is_bad(builder().node(2), &part, &node(2));
@@ -195,7 +195,7 @@ fn another_file_is_refused_and_stays() {
         &part,
         &format!("{other}run is \"\" there and \"b\" here"),
     );
-    let none = "it is no part of a node: ";
+    let none = "not a node's journal: ";
     let drill = b"{\"failreg\":\"drill\",\"version\":1}\n{\"trace\":0}\n{\"list\":0}\n";
     is_bad(builder(), drill, none);
     for bytes in ["\n", "{}", "a letter\nof two lines\n", "\u{feff}"] {
@@ -237,7 +237,7 @@ fn a_line_that_the_node_did_not_write_is_refused_by_its_number() {
     let is_bad = |bytes: &[u8], words: &str| {
         is_refused(builder(), &path, bytes, ErrorKind::BadPart, words);
     };
-    let other = "replaying the call gives another result: ";
+    let other = "the call does not replay: ";
     is_bad(
         &part.replace_in("return(a)", "return(b)"),
         &format!("line 3: {other}"),
@@ -260,7 +260,7 @@ fn a_line_that_the_node_did_not_write_is_refused_by_its_number() {
     let doubled = [&lines[..2], &lines[1..]].concat().concat();
     is_bad(doubled.as_bytes(), &format!("line 3: {other}"));
     // A line that isn't one, even if the last one is incomplete.
-    let none = "it is no line of a call: ";
+    let none = "not a line of a call: ";
     for bad in ["\n", "{}\n", "null\n", "pass p\n", lines[0], "\0\0\n"] {
         let with = format!("{}{bad}{}", lines[..3].concat(), lines[3..].concat());
         is_bad(with.as_bytes(), &format!("line 4: {none}"));
@@ -314,7 +314,7 @@ fn what_is_no_file_is_refused() {
         let (kind, text) = refused(builder(), path);
         assert_eq!(kind, ErrorKind::BadPart, "{text}");
         assert!(
-            text.contains("it can't be opened") || text.contains("it is no file"),
+            text.contains("cannot open") || text.contains("not a regular file"),
             "{text}"
         );
     }
@@ -338,7 +338,7 @@ fn a_part_is_open_once() {
     let (kind, text) = refused(builder(), &path);
     assert_eq!(kind, ErrorKind::PartInUse);
     assert!(
-        text.contains("it is open already, in this process or another: end that process"),
+        text.contains("already open in this process or another: end that process"),
         "{text}"
     );
     // A closed registry releases it.
