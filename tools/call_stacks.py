@@ -86,22 +86,23 @@ class Program:
         self.calls, self.names, self.uses, self.allocating = {}, {}, {}, set()
         for function in self.disassembled():
             self.add(function)
-        self.called = {target for _, _, target in self.calls.values()}
+        self.called = {target for _, _, target in self.calls.values()} - {None}
 
     def disassembled(self):
         words = ["objdump", "-d", "--no-show-raw-insn", "--section=.text", self.path]
-        text = subprocess.run(words, capture_output=True, text=True, check=True).stdout
         function = None
-        for line in text.splitlines():
-            heading = HEADING.match(line)
-            if heading:
-                if function:
-                    yield function
-                function = Function(int(heading[1], 16), heading[2])
-            elif function and (row := LINE.match(line)):
-                function.rows.append((int(row[1], 16), row[2], row[3]))
-        if function:
-            yield function
+        with subprocess.Popen(words, stdout=subprocess.PIPE, text=True) as disassembly:
+            for line in disassembly.stdout:
+                heading = HEADING.match(line)
+                if heading:
+                    if function:
+                        yield function
+                    function = Function(int(heading[1], 16), heading[2])
+                elif function and (row := LINE.match(line)):
+                    function.rows.append((int(row[1], 16), row[2], row[3]))
+        if disassembly.returncode or not function:
+            raise SystemExit(f"objdump can't read {self.path}")
+        yield function
 
     def add(self, function):
         self.names[function.start] = function.name
@@ -114,11 +115,11 @@ class Program:
         for (address, name, operands), (back, _, _) in zip(function.rows, following):
             if name == "call" and address in depths:
                 target = TARGET.match(operands)
-                self.calls[back] = (function, depths[address], int(target[1], 16) if target else None)
+                self.calls[back] = (function.start, depths[address], int(target[1], 16) if target else None)
 
     def name_at(self, address):
         """The name of the function whose call returns to an address, if one does."""
-        return self.calls[address][0].name if address in self.calls else None
+        return self.names[self.calls[address][0]] if address in self.calls else None
 
     def able_to_allocate(self):
         """The names of the functions that may come to an allocation. One that calls what it is given may."""
@@ -133,15 +134,15 @@ class Program:
         words of a stack, of which the first is a return address."""
         base, at, below, names = entry - self.entry, 0, None, []
         while at < len(words) and words[at] - base in self.calls:
-            function, depth, target = self.calls[words[at] - base]
-            if below is not None and target not in (below.start, None):
-                raise BadStack(f"{function.name} called {self.names.get(target)}, not {below.name}")
-            names.append(function.name)
-            below = function
+            start, depth, target = self.calls[words[at] - base]
+            if below is not None and target not in (below, None):
+                raise BadStack(f"{self.names[start]} called {self.names.get(target)}, not {self.names[below]}")
+            names.append(self.names[start])
+            below = start
             at += 1 + depth // WORD
         # C code begins a program and each of its threads, and calls what no other function does.
-        if below and below.start in self.called:
-            raise BadStack(f"nothing is seen above {below.name}")
+        if below in self.called:
+            raise BadStack(f"nothing is seen above {self.names[below]}")
         return names
 
 
