@@ -112,9 +112,10 @@ class RefusedCalls:
         return note
 
     def missing(self):
-        """The calls in which memory never was refused, but those that take none."""
+        """The calls in which memory never was refused, but those that take none, with whether a program makes them."""
         wanted = self.able | (self.calls.keys() - self.made if self.all_are_made else set())
-        return [told for call, told in self.calls.items() if call in wanted and not self.counts[call]]
+        missing = [(call, told) for call, told in self.calls.items() if call in wanted and not self.counts[call]]
+        return [f"{told}: NEVER {'refused' if call in self.made else 'made'}" for call, told in missing]
 
     def tell(self, all_are_wanted):
         """Prints how often memory was refused in each call, and says whether that is enough."""
@@ -123,7 +124,7 @@ class RefusedCalls:
                 print(f"{told}: refused {self.counts[call]} times")
         missing = self.missing()
         for told in missing if all_are_wanted else []:
-            print(f"{told}: NEVER refused")
+            print(told)
         refused = sum(1 for count in self.counts.values() if count)
         print(f"memory was refused in {refused} calls, and never in {len(missing)} others that can find none")
         return not (all_are_wanted and missing)
