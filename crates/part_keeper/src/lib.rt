@@ -4,6 +4,8 @@
 
 mod bounded_line;
 mod fault;
+mod journal;
+pub mod laws;
 mod lines;
 mod part_file;
 mod recorder;

@@ -66,6 +66,14 @@ impl<W: Write> PartLines<W> {
         !self.has_failed
     }
 
+    /// Writes nothing from now on.
+    pub(crate) fn end(&mut self)
+        ensures out { self.new.out ≡ self.old.out }
+        ensures failed { self.new.has_failed ≡ true }
+    {
+        self.has_failed = true;
+    }
+
     // Writes bytes in one write, and flushes them.
     fn put(&mut self, bytes: &[u8]) -> io::Result<()>
         ensures ok { OnOk result (Appends (W.contents (inner_of self.old.out))

@@ -1,0 +1,12 @@
+use Rattle.streams.specs.Watched.{inner_of}
+use Rattle.part_keeper.proofs.Pieces.{given_continues}
+use Rattle.part_keeper.proofs.recording.Recording.make_batch.Goals as goal
+
+pub returns-in-Ok-clause-journal : goal.returns-in-Ok-clause-journal
+returns-in-Ok-clause-journal g c =
+    let old = c.args.self.now.journal in
+    let new = c.write.new.self in
+    given_continues g.W.Write.contents g.L.Label.config g.L.Label.seed g.L.Label.keeps g.L.Ledger.parts
+    c.give-piece.new.seat (inner_of old.lines.out) (inner_of new.lines.out) old.calls new.calls
+    c.make_batch-answer.new.seat c.give-piece.result c.give-piece.ensures.same c.give-piece.ensures.piece
+    c.in-Ok.ensures.written
