@@ -9,7 +9,8 @@ use Rattle.node_calls.specs.Asks.{ask_value, ask_value_first, reply_value}
 use Rattle.node_steps.specs.declared.config.Config.{Config}
 use Rattle.node_registry.specs.Receipts.{IsAnswered}
 use Rattle.node_registry.specs.Receipts as registry
-use Rattle.part_keeper.specs.Kept.{IsRecorded, IsUnanswered}
+use Rattle.part_keeper.specs.Kept.{IsUnanswered}
+use Rattle.part_keeper.specs.Pieces.{Continues, HasLine}
 use Rattle.part_keeper.specs.declared.fault.CallFault.{CallFault}
 use Rattle.part_keeper.specs.declared.fault.CallFault.TheVariants as faults
 use Rattle.http_replies.specs.declared.reply.HttpReply.{HttpReply}
@@ -18,7 +19,7 @@ use Rattle.http_routes.specs.Replies.{acceptance_value, refusal_value}
 use Rattle.http_routes.specs.Requests.{WantedValue, call, wanted}
 use Rattle.http_routes.specs.Requests as wants
 use Rattle.spread_routes.specs.Wanted.{SpreadValue}
-use Rattle.http_serve.specs.Recorded.{AnswersRecording, AreWritten, IsNotMade, IsNotRecorded, IsServedRecording, IsServedWriting, IsSpreadRecording, IsSpreadWriting, TellsFault}
+use Rattle.http_serve.specs.Recorded.{AnswersRecording, IsNotMade, IsNotRecorded, IsServedRecording, IsServedWriting, IsSpreadRecording, IsSpreadWriting, TellsFault}
 use Rattle.http_serve.specs.Served.{IsServed}
 use Rattle.http_serve.specs.Spreads.{AnswersRequest, IsSpreadFrom, IsSpreadServed}
 use Rattle.http_serve.proofs.Spreads.{answers_as}
@@ -53,77 +54,79 @@ was_recorded fault is = let no : ⊥ = cc in no
 is_made : (fault : NodeFault) → faults.Refused fault ≡ faults.RecordingFailed → ⊥
 is_made fault is = let no : ⊥ = cc in no
 
-module _ {W : Type 0} (contents : W → Option (List ℕ)) (old new : W) (had has : ℕ) (config : Config) (seed : List ℕ) where
+module _ {W : Type 0} (contents : W → Option (List ℕ)) (old new : W) (was now had has : ℕ) (config : Config)
+    (seed : List ℕ) (keeps : Bool) (seats : ℕ) where
   -- one that was accepted and written is answered so
   pub written_so : (ask : Ask) (given : ReplyValue) (reply : Reply) → IsAnswered config seed ask reply →
-      IsRecorded contents old new ask reply → ((n : ℕ) → given ≡ acceptance_value (reply_value n reply))
-      → has ≡ had + 1 → IsServedWriting contents old new had has config seed (ask_told ask) given
-  written_so ask given reply (r, node, of, answer, accepted) recorded told counted = inl (
+      HasLine contents config seed keeps seats has old new was now ask reply
+      → ((n : ℕ) → given ≡ acceptance_value (reply_value n reply)) → has ≡ had + 1
+      → IsServedWriting contents old new was now had has config seed keeps seats (ask_told ask) given
+  written_so ask given reply (r, node, of, answer, accepted) line told counted = inl (
     record {
       receipt = r;
       accepted = accepted;
       asked = (node, ap (λ (o : Ask). ask_value config.nodes o r.entry.reply) of);
       told = told config.nodes ∙ ap (λ (o : Reply). acceptance_value (reply_value config.nodes o)) (sym answer);
     },
-    record { made = ask; reply = reply; asked = refl; recorded = recorded; told = told config.nodes },
+    record { made = ask; reply = reply; asked = refl; line = line; told = told config.nodes },
     counted,
   )
 
   -- and one that was refused so
   pub refused_so : (ask : Ask) (given : ReplyValue) (fault : NodeFault) →
       registry.IsRefused config seed (ask_value_first config.nodes ask) fault → IsReply (refusal_value fault) given
-      → has ≡ had → IsServedWriting contents old new had has config seed (ask_told ask) given
+      → has ≡ had → IsServedWriting contents old new was now had has config seed keeps seats (ask_told ask) given
   refused_so ask given fault refused why same =
       inr (inr (inl (record { fault = fault; refused = refused; told = why }), same))
 
   -- one that isn't made
   pub unmade_so : (ask : AskTold) (given : ReplyValue) → IsNotMade given → has ≡ had →
-      IsServedWriting contents old new had has config seed ask given
+      IsServedWriting contents old new was now had has config seed keeps seats ask given
   unmade_so ask given is same = inr (inr (inr (inl is), same))
 
   -- by what came of it
   pub written_by : (S : Type 0) (ask : Ask) (given : ReplyValue) (made : Result Reply CallFault)
       → IfOk made (IsAnswered config seed ask)
-      → IfOk made (IsRecorded contents old new ask)
+      → IfOk made (HasLine contents config seed keeps seats has old new was now ask)
       → OnOk made (has ≡ had + 1)
       → IfErr made (IsUnanswered config seed ask)
       → IfErr made (λ fault. (fault ≡ faults.NotRecorded → ⊥) → (has ≡ had) × S)
       → IfOk made (λ reply. (n : ℕ) → given ≡ acceptance_value (reply_value n reply))
       → IfErr made (λ fault. TellsFault fault given)
-      → IsServedWriting contents old new had has config seed (ask_told ask) given
-  written_by S ask given (Ok reply) answered recorded counted unanswered unmade told why =
-      written_so ask given reply answered recorded told counted
-  written_by S ask given (Err (faults.Refused fault)) answered recorded counted unanswered unmade told why =
+      → IsServedWriting contents old new was now had has config seed keeps seats (ask_told ask) given
+  written_by S ask given (Ok reply) answered line counted unanswered unmade told why =
+      written_so ask given reply answered line told counted
+  written_by S ask given (Err (faults.Refused fault)) answered line counted unanswered unmade told why =
       refused_so ask given fault unanswered why (unmade (was_recorded fault)).0
-  written_by S ask given (Err faults.NotRecorded) answered recorded counted unanswered unmade told why = inr (inl why)
-  written_by S ask given (Err faults.RecordingFailed) answered recorded counted unanswered unmade told why =
+  written_by S ask given (Err faults.NotRecorded) answered line counted unanswered unmade told why = inr (inl why)
+  written_by S ask given (Err faults.RecordingFailed) answered line counted unanswered unmade told why =
       unmade_so (ask_told ask) given why (unmade failed_otherwise).0
 
   -- several calls, by what came of them
-  pub spread_by : (S : Type 0) (keeps : Bool) (seats : ℕ) (name : List ℕ) (wanted : SpreadValue)
+  pub spread_by : (S : Type 0) (name : List ℕ) (wanted : SpreadValue)
       (made : Result HttpReply CallFault) (given : HttpReply)
       → IfOk made (λ reply. IsSpreadFrom config seed keeps seats had has name wanted (http_value reply))
-      → OnOk made (AreWritten contents old new config seed keeps seats has)
+      → OnOk made (Continues contents config seed keeps seats has old new was now)
       → IfErr made (λ fault. (fault ≡ faults.NotRecorded) ⊎ (fault ≡ faults.RecordingFailed))
       → IfErr made (λ fault. (fault ≡ faults.NotRecorded → ⊥) → (has ≡ had) × S)
       → IfOk made (λ reply. given ≡ reply)
       → IfErr made (λ fault. TellsFault fault (http_value given))
-      → IsSpreadWriting contents old new had has config seed keeps seats name wanted (http_value given)
-  spread_by S keeps seats name wanted (Ok reply) given came written only unmade told why = inl (
+      → IsSpreadWriting contents old new was now had has config seed keeps seats name wanted (http_value given)
+  spread_by S name wanted (Ok reply) given came written only unmade told why = inl (
     subst (λ r. IsSpreadFrom config seed keeps seats had has name wanted (http_value r)) (sym told) came,
     written,
   )
-  spread_by S keeps seats name wanted (Err (faults.Refused fault)) given came written (inl is) unmade told why =
+  spread_by S name wanted (Err (faults.Refused fault)) given came written (inl is) unmade told why =
       absurd (was_recorded fault is)
-  spread_by S keeps seats name wanted (Err (faults.Refused fault)) given came written (inr is) unmade told why =
+  spread_by S name wanted (Err (faults.Refused fault)) given came written (inr is) unmade told why =
       absurd (is_made fault is)
-  spread_by S keeps seats name wanted (Err faults.NotRecorded) given came written only unmade told why = inr (inl why)
-  spread_by S keeps seats name wanted (Err faults.RecordingFailed) given came written only unmade told why =
+  spread_by S name wanted (Err faults.NotRecorded) given came written only unmade told why = inr (inl why)
+  spread_by S name wanted (Err faults.RecordingFailed) given came written only unmade told why =
       inr (inr (why, (unmade failed_otherwise).0))
 
   -- whatever was written
   pub as_recording : (ask : AskTold) (given : ReplyValue)
-      → IsServedWriting contents old new had has config seed ask given → IsServedRecording config seed (call ask) given
+      → IsServedWriting contents old new was now had has config seed keeps seats ask given → IsServedRecording config seed (call ask) given
   as_recording ask given (inl (made, written, counted)) = inl (inl (inl made))
   as_recording ask given (inr (inl unrecorded)) = inr (inl unrecorded)
   as_recording ask given (inr (inr (inl refused, same))) = inl (inl (inr refused))

@@ -5,5 +5,5 @@ use Rattle.http_serve.proofs.handler.recording.RecordingHandler.call.Goals as go
 
 pub returns : goal.returns
 returns g c =
-    as_recording _ _ _ _ _ g.L.Label.config g.L.Label.seed (ask_told c.args.ask) (http_value c.call_from.result)
-    c.call_from.ensures
+    as_recording _ _ _ _ _ _ _ g.L.Label.config g.L.Label.seed g.L.Label.keeps g.L.Ledger.parts (ask_told c.args.ask)
+    (http_value c.call_from.result) c.call_from.ensures
