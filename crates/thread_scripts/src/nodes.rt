@@ -196,9 +196,9 @@ fn run_registry<L: Waiting + Send + Sync, R: Threads + Wait + Sync>(
         rt,
         alloc,
         &registry,
-        &looks,
         seats,
         plan,
+        &looks,
         config.node,
         gossip,
     )?;

@@ -13,7 +13,7 @@ pub returns-clause-lists : goal.returns-clause-lists
 returns-clause-lists g c =
     let plan = plan_value c.args.plan.now in
     let gossip = option_map (λ g. (g.wire, g.rounds)) c.args.job.gossip in
-    let made = c.in_ok-finished in
+    let made = c.in_ok-finished.field-0 in
     let lists = made.finished.lists.items in
     let faults : RunFaults = (made.start_faults.items, made.faults.items) in
     let vain = made.vain.items in
@@ -21,4 +21,4 @@ returns-clause-lists g c =
     (sym c.requires.waits)
     (subst (λ k. AreOfNode k c.args.plan.now.seed plan gossip g.L.Waiting.waits lists faults vain) (sym c.requires.config)
     (subst (λ s. AreOfNode g.L.Label.config s plan gossip g.L.Waiting.waits lists faults vain) (sym c.requires.seed)
-    made.ensures.calls))
+    c.in_ok-finished.ensures.calls))
