@@ -5,7 +5,7 @@ use Rattle.std.proofs.lemmas.List.{at_drop_more, at_drop_all}
 use Rattle.thread_checks.specs.Scans.{has_line}
 use Rattle.thread_checks.specs.Views.{by_lines}
 
-module _ {S : Type 0} (shown : S → List ℕ → List ℕ) (next : S → List ℕ → S) (lines : List (List ℕ)) (n : ℕ) where
+module _ {S A : Type 0} (shown : S → List ℕ → List A) (next : S → List ℕ → S) (lines : List (List ℕ)) (n : ℕ) where
   shown-drop : (s : S) (line : List ℕ) → n < length lines → line ≡ get_or lines n line →
       by_lines shown next s (drop n lines) ≡ shown s line ++ by_lines shown next (next s line) (drop (n + 1) lines)
   shown-drop s line h e =
@@ -13,7 +13,7 @@ module _ {S : Type 0} (shown : S → List ℕ → List ℕ) (next : S → List �
       ∙ ap (λ x. shown s x ++ by_lines shown next (next s x) (drop (n + 1) lines)) (sym e)
 
   -- with one line more
-  pub one_shown : (s later : S) (m : ℕ) (line out longer all : List ℕ) → n < length lines →
+  pub one_shown : (s later : S) (m : ℕ) (line : List ℕ) (out longer all : List A) → n < length lines →
       line ≡ get_or lines n line → m ≡ n + 1 → out ++ by_lines shown next s (drop n lines) ≡ all →
       longer ≡ out ++ shown s line → later ≡ next s line →
       longer ++ by_lines shown next later (drop m lines) ≡ all
@@ -22,7 +22,7 @@ module _ {S : Type 0} (shown : S → List ℕ → List ℕ) (next : S → List �
       rw (grown, stepped, last) (rw append_assoc (ap (λ x. out ++ x) (sym next_one) ∙ so_far))
 
   -- behind the last line
-  pub all_shown : (s : S) (out all : List ℕ) → n ≡ length lines → out ++ by_lines shown next s (drop n lines) ≡ all →
+  pub all_shown : (s : S) (out all : List A) → n ≡ length lines → out ++ by_lines shown next s (drop n lines) ≡ all →
       out ≡ all
   all_shown s out all e so_far =
       let none : by_lines shown next s (drop n lines) ≡ [] = at_drop_all (by_lines shown next s) lines n (omega arith)

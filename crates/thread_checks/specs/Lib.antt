@@ -3,3 +3,5 @@ pub mod Views
 pub mod Scans
 pub mod Scanned
 pub mod Checked
+pub mod Waits
+pub mod WaitLines

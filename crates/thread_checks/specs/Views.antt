@@ -7,7 +7,7 @@ use Rattle.thread_checks.specs.declared.views.View.TheVariants as views
 use Rattle.thread_checks.specs.Lines.{is_expect, is_own, is_start_call, is_worker, rounds_in, share_in}
 
 -- of lines, in their order, by a state that goes from line to line
-abbrev pub by_lines : {S : Type 0} → (S → List ℕ → List ℕ) → (S → List ℕ → S) → S → List (List ℕ) → List ℕ
+abbrev pub by_lines : {S A : Type 0} → (S → List ℕ → List A) → (S → List ℕ → S) → S → List (List ℕ) → List A
 by_lines shown next s [] = []
 by_lines shown next s (line ∷ lines) = shown s line ++ by_lines shown next (next s line) lines
 

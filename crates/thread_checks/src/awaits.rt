@@ -1,12 +1,16 @@
 //! Where the workers of a script wait.
 
+ghost use Rattle.std.specs.Prelude.{◌≡◌, ◌++◌, ◌<◌, ◌≤◌, length, IfOk, OnOk};
+ghost use Rattle.thread_checks.specs.WaitLines.{place_value, wait_lines, wait_list};
+ghost use Rattle.thread_checks.specs.Waits.{after_place, name_of, wait_at, waits_in, worker_in};
+
 use crate::lines::{await_in, is_await, is_worker};
 use actions::{Name, NameFault};
 use decimals::{byte, number};
 use std::alloc::{AllocError, Global};
-use streams::{cut, text_of};
+use streams::{MOST_BYTES, cut, text_of};
 use thread_plans::call_in_line;
-use thread_workers::{Await, Waits};
+use thread_workers::Await;
 
 /// The most nodes of a cluster.
 const MOST_NODES: usize = 32;
@@ -24,7 +28,9 @@ struct Place {
 }
 
 // The node in a line `worker <node>`.
-fn worker_in(line: &[u8]) -> Option<u8> {
+fn worker_in(line: &[u8]) -> Option<u8>
+    ensures { result ≡ worker_in line.now }
+{
     let (_word, node) = cut(text_of(line)?)?;
     byte(node)
 }
@@ -45,18 +51,35 @@ fn calls_in(line: &[u8]) -> u32 {
     u32::from(call_in_line(line).is_some())
 }
 
+// The point of a name; none, where the text is no name.
+fn name_of(alloc: Global, text: &str) -> Result<Option<Name>, AllocError>
+    ensures { IfOk result (λ name. name ≡ name_of text.now) }
+{
+    match Name::parse(alloc, text) {
+        Ok(name) => Ok(Some(name)),
+        Err(NameFault::BadName) => Ok(None),
+        Err(NameFault::OutOfMemory) => Err(AllocError),
+    }
+}
+
 impl Place {
-    fn begin(&mut self, node: u8) {
+    fn begin(&mut self, node: u8)
+        ensures line { self.new.line ≡ self.old.line }
+        ensures node { self.new.node ≡ node }
+    {
+        self.node = node;
+        self.index = 0;
         if let Some(workers) = self.workers.get_mut(usize::from(node)) {
-            self.node = node;
             self.worker = *workers;
-            self.index = 0;
             *workers = workers.saturating_add(1);
         }
     }
 
-    fn pass(&mut self, line: &[u8]) {
-        self.line = self.line.saturating_add(1);
+    fn pass(&mut self, line: &[u8])
+        requires { self.old.line < 4294967295 }
+        ensures { place_value self.new ≡ after_place (place_value self.old) line.now }
+    {
+        self.line += 1;
         if is_worker(line) {
             if let Some(node) = worker_in(line) {
                 self.begin(node);
@@ -66,24 +89,43 @@ impl Place {
         }
     }
 
-    fn wait(&self, alloc: Global, line: &[u8]) -> Result<Option<Await>, AllocError> {
+    fn wait(&self, alloc: Global, line: &[u8]) -> Result<Option<Await>, AllocError>
+        ensures { IfOk result (λ wait.
+            wait_list wait ≡ wait_at (place_value self.now) line.now) }
+    {
         if !is_await(line) {
             return Ok(None);
         }
         let Some((name, stamp)) = await_in(line) else {
             return Ok(None);
         };
-        let name = match Name::parse(alloc, name) {
-            Ok(name) => Some(name),
-            Err(NameFault::BadName) => None,
-            Err(NameFault::OutOfMemory) => return Err(AllocError),
-        };
-        Ok(Some(Await::new(self.line, self.node, self.worker, self.index, name, stamp)))
+        let name = name_of(alloc, name)?;
+        Ok(Some(Await {
+            line: self.line,
+            node: self.node,
+            worker: self.worker,
+            index: self.index,
+            name,
+            stamp,
+        }))
     }
 }
 
+fn push_wait(wait: Option<Await>, awaits: &mut Vec<Await>) -> Result<(), AllocError>
+    ensures { OnOk result
+        (wait_lines awaits.new.items ≡ wait_lines awaits.old.items ++ wait_list wait) }
+{
+    if let Some(wait) = wait {
+        awaits.push(wait)?;
+    }
+    Ok(())
+}
+
 /// The waits of a script, by line.
-pub fn awaits_in(alloc: Global, script: &[u8]) -> Result<Vec<Await>, AllocError> {
+pub fn awaits_in(alloc: Global, script: &[u8]) -> Result<Vec<Await>, AllocError>
+    requires { length script.now ≤ MOST_BYTES }
+    ensures { IfOk result (λ awaits. wait_lines awaits.items ≡ waits_in script.now) }
+{
     let mut place = Place {
         line: 1,
         node: 0,
@@ -93,21 +135,8 @@ pub fn awaits_in(alloc: Global, script: &[u8]) -> Result<Vec<Await>, AllocError>
     };
     let mut awaits = Vec::new(alloc);
     for line in script.split(|byte| *byte == b'\n') {
-        if let Some(wait) = place.wait(alloc, line)? {
-            awaits.push(wait)?;
-        }
+        push_wait(place.wait(alloc, line)?, &mut awaits)?;
         place.pass(line);
     }
     Ok(awaits)
-}
-
-/// The numbers of the lines that waited in vain.
-pub fn in_vain(alloc: Global, waits: &Waits) -> Result<Vec<u32>, AllocError> {
-    let mut vain = Vec::new(alloc);
-    for wait in waits.awaits() {
-        if wait.is_in_vain() {
-            vain.push(wait.line)?;
-        }
-    }
-    Ok(vain)
 }

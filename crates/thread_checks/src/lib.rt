@@ -9,6 +9,6 @@ mod plans;
 mod scan;
 mod views;
 
-pub use awaits::{awaits_in, in_vain};
+pub use awaits::awaits_in;
 pub use failed::failures_of;
 pub use plans::{first_rounds, plain_text_of, plan_with};

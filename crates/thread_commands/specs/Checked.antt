@@ -6,19 +6,24 @@ use Rattle.thread_plans.specs.BadLines.{bad_text}
 use Rattle.thread_plans.specs.Plans.{PlanValue, plan_in}
 use Rattle.thread_warnings.specs.Runs.{RunFaults}
 use Rattle.thread_scripts.specs.Outputs.{IsJudged}
-use Rattle.thread_scripts.specs.Plays.{AreListsOf, AreTracesOf}
+use Rattle.thread_scripts.specs.Plays.{AreListsWaiting, AreTracesOf}
 use Rattle.thread_checks.specs.Checked.{failed_text, plain_text, plan_with}
+use Rattle.thread_checks.specs.WaitLines.{Waits, wait_lines}
+use Rattle.thread_checks.specs.Waits.{waits_in}
 
--- the run of a script that is checked came to these traces and receipts, refused calls so, prints this, and
--- this is said of it
+-- The run of a script that is checked came to these traces and receipts, refused calls so, prints this, and
+-- this is said of it. Its waits are those of its lines. Of each in vain some state of its node after the calls of the
+-- node's gossip doesn't know the setting, and of each other some state of its node knows it
 pub record IsChecked (script : List ℕ) (traces : Traces) (lists : Lists) (faults : RunFaults) (text said : List ℕ)
     : Type 0 where
   pub plan : PlanValue
+  pub waits : Waits
   pub vain : List ℕ
   pub explained : Bool
   pub read : plan_in (plain_text script) ≡ Ok plan
   pub legal : AreTracesOf (plan_with script plan) traces
-  pub given : AreListsOf (plan_with script plan) lists faults
+  pub waiting : wait_lines waits ≡ waits_in script
+  pub given : AreListsWaiting (plan_with script plan) waits lists faults vain
   pub judged : IsJudged (plan_with script plan) traces lists text explained
   pub failed : said ≡ failed_text script (plan_with script plan) lists faults vain text explained
 

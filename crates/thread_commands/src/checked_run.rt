@@ -6,13 +6,15 @@ ghost use Rattle.streams.specs.declared.fault.ScriptFault.TheVariants.{BadLine, 
 ghost use Rattle.thread_plans.specs.BadLines.{bad_text};
 ghost use Rattle.thread_plans.specs.Plans.{plan_in, plan_value};
 ghost use Rattle.thread_checks.specs.Checked.{IsSizeOf, plain_text};
+ghost use Rattle.thread_checks.specs.WaitLines.{wait_lines};
+ghost use Rattle.thread_checks.specs.Waits.{waits_in};
 ghost use Rattle.thread_commands.specs.Checked.{IsChecked};
 
 use std::alloc::{AllocError, Global};
 use std::sync::Wait;
 use std::thread::Threads;
 use streams::{MOST_BYTES, ScriptFault};
-use thread_checks::{awaits_in, failures_of, first_rounds, in_vain, plain_text_of, plan_with};
+use thread_checks::{awaits_in, failures_of, first_rounds, plain_text_of, plan_with};
 use thread_scripts::{Played, Size, ThreadPlan, Waits, judged_output_of, play_waiting};
 use thread_warnings::read_plan_saying;
 
@@ -26,7 +28,10 @@ pub(crate) struct CheckedRun {
 }
 
 // What workers wait for where this plan of a script is played.
-fn waits_of(alloc: Global, script: &[u8], plan: &ThreadPlan<'_>) -> Result<Waits, AllocError> {
+fn waits_of(alloc: Global, script: &[u8], plan: &ThreadPlan<'_>) -> Result<Waits, AllocError>
+    requires { length script.now ≤ MOST_BYTES }
+    ensures { IfOk result (λ waits. wait_lines waits.awaits.items ≡ waits_in script.now) }
+{
     let first = first_rounds(alloc, script)?;
     let awaits = awaits_in(alloc, script)?;
     Waits::in_step(alloc, plan, first.unwrap_or(0), awaits)
@@ -52,7 +57,6 @@ fn check_plan<R: Threads + Wait + Sync>(
     let waits = waits_of(alloc, script, &plan)?;
     let played = play_waiting(rt, alloc, &plan, &waits)?;
     let (text, yes) = judged_output_of(alloc, &plan, &played)?;
-    let vain = in_vain(alloc, &waits)?;
     let said = failures_of(
         alloc,
         script,
@@ -60,7 +64,7 @@ fn check_plan<R: Threads + Wait + Sync>(
         &played.lists,
         &played.start_faults,
         &played.faults,
-        &vain,
+        &played.vain,
         text.as_bytes(),
         yes,
     )?;

@@ -33,6 +33,12 @@ pub IfOk-both : {T E : Type 0} (r : Result T E) (A B Q : T → Type 0) → ((x :
 IfOk-both (Ok x) A B Q both a b = both x a b
 IfOk-both (Err e) A B Q both a b = tt
 
+-- three facts of an answer are one
+pub IfOk-three : {T E : Type 0} (r : Result T E) (A B C : T → Type 0) → IfOk r A → IfOk r B → IfOk r C →
+    IfOk r (λ x. A x × B x × C x)
+IfOk-three (Ok x) A B C a b c = (a, b, c)
+IfOk-three (Err e) A B C a b c = tt
+
 -- a fact of an answer gives another
 pub IfOk-map : {T E : Type 0} (r : Result T E) (A Q : T → Type 0) → ((x : T) → A x → Q x) → IfOk r A → IfOk r Q
 IfOk-map (Ok x) A Q then a = then x a

@@ -56,12 +56,15 @@ AreOfKind kinds.Telling config seed was now rounds receipts = AreTold config see
 AreOfKind kinds.Sharing config seed was now rounds receipts =
     (memory : List Recalled) × AreShared config seed was rounds memory receipts now
 
--- from a seat without a call as many rounds were done over this wire as this; or none, where the thread couldn't start
+-- from a seat without a call so many rounds were done over this wire, of the kind that this gossip does
+abbrev pub AreRoundsOf : Config → List ℕ → Place × Rounds → Place → ℕ → List Receipt → Type 0
+AreRoundsOf config seed gossip now rounds receipts =
+    AreGivenSince config seed 0 receipts × AreOfKind gossip.1.kind config seed gossip.0 now rounds receipts
+
+-- as many as it does were done; or none, where the workers beside it had no thread
 abbrev pub IsGossip : Config → List ℕ → Place × Rounds → Place → List Receipt → Type 0
 IsGossip config seed gossip now receipts =
-    AreGivenSince config seed 0 receipts
-    × (AreOfKind gossip.1.kind config seed gossip.0 now gossip.1.count receipts
-    ⊎ AreOfKind gossip.1.kind config seed gossip.0 now 0 receipts)
+    AreRoundsOf config seed gossip now gossip.1.count receipts ⊎ AreRoundsOf config seed gossip now 0 receipts
 
 -- how many receipts there are, where memory wasn't refused
 abbrev pub count_or : Result (Vec Receipt Global) AllocError → ℕ → ℕ

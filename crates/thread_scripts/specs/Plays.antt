@@ -15,6 +15,8 @@ use Rattle.gossip.specs.Mailboxes.{Place, new_place}
 use Rattle.thread_plans.specs.declared.plan.Rounds.{Rounds}
 use Rattle.thread_plans.specs.Plans.{BlockValue, PlanValue}
 use Rattle.thread_warnings.specs.Runs.{FaultList, RunFaults}
+use Rattle.thread_workers.specs.declared.waits.Await.{Await}
+use Rattle.thread_workers.specs.Waits.{AreWaited}
 use Rattle.thread_workers.specs.Workers.{AreListsAt, AreOfWorkers, of_node}
 use Rattle.thread_scripts.specs.Calls.{AreOfStarts}
 use Rattle.thread_scripts.specs.Gossips.{AreOfGossip, gossip_over}
@@ -42,39 +44,49 @@ abbrev pub gossip_at : PlanValue → ℕ → Option (Place × Rounds)
 gossip_at plan node = gossip_over (new_place plan.nodes node) plan.gossip
 
 -- Behind lists that were there before: those of a node's blocks, and that of its gossip. The faults say why calls of
--- these blocks were refused
+-- these blocks were refused, and these lines which of the node's waits were in vain, after the calls of its gossip
 pub record AreOfWork (config : Config) (seed : List ℕ) (blocks : List BlockValue) (gossip : Option (Place × Rounds))
-    (was lists : Lists) (faults : FaultList) : Type 0 where
+    (waits : List Await) (was lists : Lists) (faults : FaultList) (vain : List ℕ) : Type 0 where
   pub worked : Lists
   pub gossiped : Lists
   pub all : lists ≡ was ++ (worked ++ gossiped)
   pub made : AreOfWorkers config seed blocks worked faults
   pub told : AreOfGossip config seed gossip gossiped
+  pub waited : AreWaited config seed (flat_map (λ list. list.items) gossiped) waits vain
 
 -- The lists of a node of a plan: of what it does before its workers, of each of its blocks, and of its gossip. It gave
--- each to one seat, from its first call on. The faults say why calls before its workers were refused, and calls of these
-pub record AreOfNode (config : Config) (seed : List ℕ) (plan : PlanValue) (gossip : Option (Place × Rounds)) (lists : Lists)
-    (faults : RunFaults) : Type 0 where
+-- each to one seat, from its first call on. The faults say why calls before its workers were refused, and calls of
+-- these; and the lines, which of these waits were in vain
+pub record AreOfNode (config : Config) (seed : List ℕ) (plan : PlanValue) (gossip : Option (Place × Rounds))
+    (waits : List Await) (lists : Lists) (faults : RunFaults) (vain : List ℕ) : Type 0 where
   pub starts : Vec Receipt Global
   pub refused : List Refusal
   pub given : AreListsAt config seed lists
   pub started : AreOfStarts config seed 0 plan.starts starts.items refused faults.0
-  pub beside : AreOfWork config seed (of_node config.node plan.blocks) gossip (starts ∷ []) lists faults.1
+  pub beside : AreOfWork config seed (of_node config.node plan.blocks) gossip waits (starts ∷ []) lists faults.1 vain
 
--- what a node comes to: its lists, and why calls were refused
-abbrev pub Part : Type 0
-Part = Lists × RunFaults
+-- what a node comes to: its lists, why calls were refused, and the lines of its waits that were in vain
+pub record Part : Type 0 where
+  pub lists : Lists
+  pub faults : RunFaults
+  pub vain : List ℕ
 
--- the lists of so many nodes of a plan, from 0 on, and why calls were refused
-pub record AreListsBelow (plan : PlanValue) (nodes : ℕ) (lists : Lists) (faults : RunFaults) : Type 0 where
+-- the lists of so many nodes of a plan, from 0 on, why calls were refused, and which of these waits were in vain
+pub record AreListsBelow (plan : PlanValue) (waits : List Await) (nodes : ℕ) (lists : Lists) (faults : RunFaults)
+    (vain : List ℕ) : Type 0 where
   pub parts : List Part
   pub number : length parts ≡ nodes
-  pub all : lists ≡ flat_map (λ (part : Part). part.0) parts
-  pub starts : faults.0 ≡ flat_map (λ (part : Part). part.1.0) parts
-  pub refused : faults.1 ≡ flat_map (λ (part : Part). part.1.1) parts
+  pub all : lists ≡ flat_map (λ (part : Part). part.lists) parts
+  pub starts : faults.0 ≡ flat_map (λ (part : Part). part.faults.0) parts
+  pub refused : faults.1 ≡ flat_map (λ (part : Part). part.faults.1) parts
+  pub waited : vain ≡ flat_map (λ (part : Part). part.vain) parts
   pub each : AllFrom (λ node (part : Part).
-      AreOfNode (config_at plan node) plan.seed plan (gossip_at plan node) part.0 part.1) 0 parts
+      AreOfNode (config_at plan node) plan.seed plan (gossip_at plan node) waits part.lists part.faults part.vain) 0 parts
 
--- the lists of the plan's nodes, in their order, and why calls were refused
+-- the lists of the plan's nodes, in their order, why calls were refused, and which of these waits were in vain
+abbrev pub AreListsWaiting : PlanValue → List Await → Lists → RunFaults → List ℕ → Type 0
+AreListsWaiting plan waits lists faults vain = AreListsBelow plan waits plan.nodes lists faults vain
+
+-- those where nothing waits
 abbrev pub AreListsOf : PlanValue → Lists → RunFaults → Type 0
-AreListsOf plan lists faults = AreListsBelow plan plan.nodes lists faults
+AreListsOf plan lists faults = (vain : List ℕ) × AreListsWaiting plan [] lists faults vain

@@ -1,11 +1,10 @@
-//! The gossip of a node, and its workers beside it.
+//! The workers of a node, and its gossip beside them.
 
-ghost use Rattle.std.specs.Prelude.{◌≡◌, ◌+◌, ◌++◌, ◌∷◌, [], ◌≤◌, ◌==◌, count_by, map, vec_len};
-ghost use Rattle.std.specs.Prelude.{All, IfOk, MatchResult, Ok};
+ghost use Rattle.std.specs.Prelude.{◌≡◌, ◌≤◌, ◌==◌, count_by, map, vec_len, All, IfOk, MatchResult};
 ghost use Rattle.node_registry.specs.Receipts.{AreGivenSince};
 ghost use Rattle.thread_plans.specs.Plans.{block_value};
 ghost use Rattle.thread_workers.specs.Workers.{AreListsAt, AreOfWorkers, of_node};
-ghost use Rattle.thread_scripts.specs.Gossips.{AreOfKind, IsGossip, count_or};
+ghost use Rattle.thread_scripts.specs.Gossips.{AreRoundsOf, IsGossip, count_or};
 
 use crate::rounds::do_rounds;
 use crate::steps::StepWire;
@@ -13,20 +12,26 @@ use gossip::MailWire;
 use node_core::{NodeFault, Receipt};
 use node_registry::{Label, Registry, Seat};
 use std::alloc::{AllocError, Global};
-use std::marker::PhantomData;
 use std::snapshot::Snapshot;
 use std::sync::Wait;
-use std::sync::atomic::{AtomicBool, Ordering};
 use std::thread;
 use std::thread::{Promise, PromisedHandle, Scope, Threads};
 use thread_plans::{Block, Rounds};
-use thread_workers::{Finished, Waits, work};
+use thread_workers::{Finished, Looks, Waiting, Waits, work};
 
 /// The gossip of a node: so many rounds over its wire.
 #[derive(Drop)]
 pub(crate) struct Gossip {
     pub wire: MailWire,
     pub rounds: Rounds,
+}
+
+/// Gossip that is to be done from a seat without a call.
+#[derive(Drop)]
+pub(crate) struct Gossiper<L: Label> {
+    pub seat: Seat<L>,
+    pub gossip: Gossip,
+    ghost fresh: { seat ≡ 0 },
 }
 
 /// What a node's gossip came to, all of which was done from one seat: the receipts of its calls, where
@@ -39,8 +44,10 @@ pub(crate) struct Gossiped<L: Label> {
     ghost counted: { count_or receipts seat ≡ seat },
 }
 
-/// What workers and gossip came to beside each other: the seats of the workers, and why their calls were
-/// refused; and gossip.
+/// What workers came to: their seats, and why their calls were refused.
+pub(crate) type Worked<L> = (Finished<L>, Vec<NodeFault>);
+
+/// What workers and gossip came to beside each other.
 #[derive(Drop)]
 pub(crate) struct Both<L: Label> {
     pub worked: Finished<L>,
@@ -48,24 +55,17 @@ pub(crate) struct Both<L: Label> {
     pub gossiped: Gossiped<L>,
 }
 
-/// Seats that are done, with that of a node's gossip behind them, where memory wasn't refused.
-pub(crate) fn with_gossip<L: Label>(
-    finished: Finished<L>,
-    gossiped: Gossiped<L>,
-) -> Result<Finished<L>, AllocError>
-    requires given { AreListsAt L.config L.seed finished.lists.items }
-    requires more { IfOk gossiped.receipts (λ rs. AreGivenSince L.config L.seed 0 rs.items) }
-    ensures len { IfOk result (λ all. vec_len all.seats ≡ vec_len finished.seats + 1) }
-    ensures given { IfOk result (λ all. AreListsAt L.config L.seed all.lists.items) }
-    ensures lists { IfOk result (λ all. (receipts : _) × (gossiped.receipts ≡ Ok receipts)
-        × (all.lists.items ≡ finished.lists.items ++ receipts ∷ [])) }
-{
-    let Gossiped {
-        seat,
-        wire: _,
-        receipts,
-    } = gossiped;
-    finished.with(seat, receipts?)
+/// The workers of a node, as many seats for them, none of which has called yet, and what they wait for.
+#[derive(Drop)]
+pub(crate) struct Crew<'a, L: Waiting> {
+    pub registry: &'a Registry<L>,
+    pub looks: &'a Looks<'a, L>,
+    pub blocks: &'a [Block<'a>],
+    pub node: u8,
+    pub seats: Vec<Seat<L>>,
+    ghost number: { vec_len seats ≤ 65536 },
+    ghost each: { vec_len seats ≡ count_by (λ b. b.node == node) blocks.now },
+    ghost fresh: { All (λ calls. calls ≡ 0) seats.items },
 }
 
 // Does the gossip of a node.
@@ -75,14 +75,13 @@ fn do_gossip<L: Label, R: Wait>(
     registry: &Registry<L>,
     waits: &Waits,
     node: u8,
-    mut seat: Seat<L>,
-    gossip: Gossip,
+    gossiper: Gossiper<L>,
 ) -> Gossiped<L>
-    requires { seat ≡ 0 }
-    ensures given { IfOk result.receipts (λ rs. AreGivenSince L.config L.seed 0 rs.items) }
-    ensures rounds { IfOk result.receipts (λ rs. AreOfKind gossip.rounds.kind L.config L.seed
-        gossip.wire result.wire gossip.rounds.count rs.items) }
+    ensures { IfOk result.receipts (λ rs. AreRoundsOf L.config L.seed
+        (gossiper.gossip.wire, gossiper.gossip.rounds) result.wire
+        gossiper.gossip.rounds.count rs.items) }
 {
+    let Gossiper { mut seat, gossip } = gossiper;
     let Gossip { wire, rounds } = gossip;
     let mut wire = StepWire::over(wire, waits.steps(), node);
     let receipts = do_rounds(rt, alloc, registry, &mut seat, &mut wire, rounds);
@@ -95,123 +94,141 @@ fn do_gossip<L: Label, R: Wait>(
     }
 }
 
-// What the gossip's thread runs. Where it couldn't start, no round is done.
-fn run_gossip<L: Label, R: Wait>(
+// A thread hands back what this crew came to.
+#[derive(Drop)]
+struct Works<'a, L: Waiting> {
+    crew: Snapshot<Crew<'a, L>>,
+}
+
+impl<'a, L: Waiting> Promise<Result<Worked<L>, AllocError>> for Works<'a, L> {
+    ghost kept_by = { λ p worked. IfOk worked (λ all.
+        (vec_len all.0.seats ≡ vec_len p.crew.value.seats)
+        × AreListsAt L.config L.seed all.0.lists.items
+        × AreOfWorkers L.config L.seed
+        (of_node p.crew.value.node (map block_value p.crew.value.blocks.now))
+        all.0.lists.items all.1.items) };
+}
+
+// The thread of a crew, or what it came to where it has none.
+type Working<'a, L> = Result<
+    PromisedHandle<Result<Worked<L>, AllocError>, Works<'a, L>>,
+    Result<Worked<L>, AllocError>,
+>;
+
+// Lets a crew call.
+fn do_work<L: Waiting + Send + Sync, R: Threads + Wait + Sync>(
     rt: &R,
     alloc: Global,
-    registry: &Registry<L>,
-    waits: &Waits,
-    node: u8,
-    refused: &AtomicBool,
-    seat: Seat<L>,
-    gossip: Gossip,
-) -> Gossiped<L>
-    requires { seat ≡ 0 }
-    ensures { IfOk result.receipts (λ rs.
-        IsGossip L.config L.seed (gossip.wire, gossip.rounds) result.wire rs.items) }
+    crew: Crew<'_, L>,
+) -> Result<Worked<L>, AllocError>
+    ensures { IfOk result (λ all. (vec_len all.0.seats ≡ vec_len crew.entry.seats)
+        × AreListsAt L.config L.seed all.0.lists.items
+        × AreOfWorkers L.config L.seed
+        (of_node crew.entry.node (map block_value crew.entry.blocks.now))
+        all.0.lists.items all.1.items) }
 {
-    if refused.load(Ordering::SeqCst) {
-        let Gossip { wire, rounds } = gossip;
-        let none = Gossip {
-            wire,
-            rounds: Rounds { count: 0, ..rounds },
-        };
-        do_gossip(rt, alloc, registry, waits, node, seat, none)
-    } else {
-        do_gossip(rt, alloc, registry, waits, node, seat, gossip)
-    }
+    let Crew {
+        registry,
+        looks,
+        blocks,
+        node,
+        seats,
+    } = crew;
+    work(rt, alloc, registry, looks, blocks, node, seats)
 }
 
-// A node's gossip and the seats of its workers, none of which has called yet.
-#[derive(Drop)]
-struct Crew<'a, L: Label> {
-    blocks: &'a [Block<'a>],
-    node: u8,
-    seat: Seat<L>,
-    gossip: Gossip,
-    seats: Vec<Seat<L>>,
-    ghost fresh_seat: { seat ≡ 0 },
-    ghost number: { vec_len seats ≤ 65536 },
-    ghost each: { vec_len seats ≡ count_by (λ b. b.node == node) blocks.now },
-    ghost fresh: { All (λ calls. calls ≡ 0) seats.items },
-}
-
-// A gossip's thread does so many rounds over this wire.
-#[derive(Drop)]
-struct Gossips<L: Label> {
-    wire: Snapshot<MailWire>,
-    rounds: Rounds,
-    of: PhantomData<L>,
-}
-
-impl<L: Label> Promise<Gossiped<L>> for Gossips<L> {
-    ghost kept_by = { λ p g. IfOk g.receipts (λ rs.
-        IsGossip L.config L.seed (p.wire.value, p.rounds) g.wire rs.items) };
-}
-
-// A gossip's thread, or what gossip came to where it couldn't start: no round.
-type Gossiping<L> = Result<PromisedHandle<Gossiped<L>, Gossips<L>>, Gossiped<L>>;
-
-// Starts the gossip of a node. Where its thread can't start, no worker waits for its rounds.
-fn start_gossip<'s, E, L: Label + Send + Sync + 's, R: Wait + Sync>(
+// Starts the work of a crew. Where it has no thread, it is done before this returns, and waits for no
+// round of gossip.
+fn start_work<'s, E, L: Waiting + Send + Sync + 's, R: Threads + Wait + Sync>(
     scope: &Scope<'s, E>,
     rt: &'s R,
     alloc: Global,
-    registry: &'s Registry<L>,
-    waits: &'s Waits,
-    node: u8,
-    refused: &'s AtomicBool,
-    seat: Seat<L>,
-    gossip: Gossip,
-) -> Gossiping<L>
-    requires { seat ≡ 0 }
-    ensures { MatchResult result
-        (λ h. (h.promise.wire.value ≡ gossip.wire) × (h.promise.rounds ≡ gossip.rounds))
-        (λ g. IfOk g.receipts (λ rs.
-        IsGossip L.config L.seed (gossip.wire, gossip.rounds) g.wire rs.items)) }
+    crew: Crew<'s, L>,
+) -> Working<'s, L>
+    ensures { MatchResult result (λ h. h.promise.crew.value ≡ crew.entry)
+        (λ worked. IfOk worked (λ all. (vec_len all.0.seats ≡ vec_len crew.entry.seats)
+        × AreListsAt L.config L.seed all.0.lists.items
+        × AreOfWorkers L.config L.seed
+        (of_node crew.entry.node (map block_value crew.entry.blocks.now))
+        all.0.lists.items all.1.items)) }
 {
-    let promise = Gossips {
-        wire: Snapshot::of(&gossip.wire),
-        rounds: gossip.rounds,
-        of: PhantomData,
+    let waits = crew.looks.waits;
+    let node = crew.node;
+    let promise = Works {
+        crew: Snapshot::of(&crew),
     };
     let started = scope.spawn_with(
         promise,
-        move || -> Gossiped<L>
-            requires { seat ≡ 0 }
-            ensures { IfOk result.receipts (λ rs.
-                IsGossip L.config L.seed (gossip.wire, gossip.rounds) result.wire rs.items) }
-        { run_gossip(rt, alloc, registry, waits, node, refused, seat, gossip) },
+        move || -> Result<Worked<L>, AllocError>
+            ensures { IfOk result (λ all. (vec_len all.0.seats ≡ vec_len crew.entry.seats)
+                × AreListsAt L.config L.seed all.0.lists.items
+                × AreOfWorkers L.config L.seed
+                (of_node crew.entry.node (map block_value crew.entry.blocks.now))
+                all.0.lists.items all.1.items) }
+        { do_work(rt, alloc, crew) },
     );
     match started {
         Ok(thread) => Ok(thread),
         Err(back) => {
-            refused.store(true, Ordering::SeqCst);
+            waits.leave(node);
             Err((back.value)())
         }
     }
 }
 
-fn join_gossip<L: Label, R: Threads>(rt: &R, gossiping: Gossiping<L>) -> Gossiped<L>
-    ensures { MatchResult gossiping (λ h. IfOk result.receipts (λ rs. IsGossip L.config L.seed
-        (h.promise.wire.value, h.promise.rounds) result.wire rs.items))
-        (λ g. result ≡ g) }
+// Does the gossip of a node where its crew works beside it in a thread, and no round where it has none.
+fn gossip_beside<L: Waiting, R: Wait>(
+    rt: &R,
+    alloc: Global,
+    registry: &Registry<L>,
+    waits: &Waits,
+    node: u8,
+    working: &Working<'_, L>,
+    gossiper: Gossiper<L>,
+) -> Gossiped<L>
+    ensures { IfOk result.receipts (λ rs. MatchResult working.now
+        (λ _. AreRoundsOf L.config L.seed (gossiper.gossip.wire, gossiper.gossip.rounds)
+        result.wire gossiper.gossip.rounds.count rs.items)
+        (λ _. AreRoundsOf L.config L.seed (gossiper.gossip.wire, gossiper.gossip.rounds)
+        result.wire 0 rs.items)) }
 {
-    match gossiping {
+    if working.is_ok() {
+        return do_gossip(rt, alloc, registry, waits, node, gossiper);
+    }
+    let Gossiper { seat, gossip } = gossiper;
+    let Gossip { wire, rounds } = gossip;
+    let gossip = Gossip {
+        wire,
+        rounds: Rounds { count: 0, ..rounds },
+    };
+    do_gossip(rt, alloc, registry, waits, node, Gossiper { seat, gossip })
+}
+
+fn join_work<L: Waiting, R: Threads>(
+    rt: &R,
+    working: Working<'_, L>,
+) -> Result<Worked<L>, AllocError>
+    ensures { MatchResult working.entry (λ h. IfOk result (λ all.
+        (vec_len all.0.seats ≡ vec_len h.promise.crew.value.seats)
+        × AreListsAt L.config L.seed all.0.lists.items
+        × AreOfWorkers L.config L.seed
+        (of_node h.promise.crew.value.node (map block_value h.promise.crew.value.blocks.now))
+        all.0.lists.items all.1.items))
+        (λ worked. result ≡ worked) }
+{
+    match working {
         Ok(thread) => thread.join(rt),
-        Err(gossiped) => gossiped,
+        Err(worked) => worked,
     }
 }
 
-// Lets all of them call beside each other.
-fn work_in<'s, E, L: Label + Send + Sync + 's, R: Threads + Wait + Sync>(
+// Lets a crew call, and does the node's gossip beside it.
+fn work_in<'s, E, L: Waiting + Send + Sync + 's, R: Threads + Wait + Sync>(
     scope: &Scope<'s, E>,
     rt: &'s R,
     alloc: Global,
-    registry: &'s Registry<L>,
-    waits: &'s Waits,
-    refused: &'s AtomicBool,
     crew: Crew<'s, L>,
+    gossiper: Gossiper<L>,
 ) -> Result<Both<L>, AllocError>
     ensures len { IfOk result (λ both.
         vec_len both.worked.seats ≡ vec_len crew.entry.seats) }
@@ -221,22 +238,15 @@ fn work_in<'s, E, L: Label + Send + Sync + 's, R: Threads + Wait + Sync>(
         (of_node crew.entry.node (map block_value crew.entry.blocks.now))
         both.worked.lists.items both.faults.items) }
     ensures gossiped { IfOk result (λ both. IfOk both.gossiped.receipts (λ rs.
-        IsGossip L.config L.seed (crew.entry.gossip.wire, crew.entry.gossip.rounds)
+        IsGossip L.config L.seed (gossiper.gossip.wire, gossiper.gossip.rounds)
         both.gossiped.wire rs.items)) }
 {
-    let Crew {
-        blocks,
-        node,
-        seat,
-        gossip,
-        seats,
-    } = crew;
-    let gossiping = start_gossip(
-        scope, rt, alloc, registry, waits, node, refused, seat, gossip,
-    );
-    let worked = work(rt, alloc, registry, waits, blocks, node, seats);
-    let gossiped = join_gossip(rt, gossiping);
-    let (worked, faults) = worked?;
+    let registry = crew.registry;
+    let waits = crew.looks.waits;
+    let node = crew.node;
+    let working = start_work(scope, rt, alloc, crew);
+    let gossiped = gossip_beside(rt, alloc, registry, waits, node, &working, gossiper);
+    let (worked, faults) = join_work(rt, working)?;
     Ok(Both {
         worked,
         faults,
@@ -244,41 +254,24 @@ fn work_in<'s, E, L: Label + Send + Sync + 's, R: Threads + Wait + Sync>(
     })
 }
 
-/// Makes the calls of a node's workers as `work` does, and does the node's gossip beside them in a thread of
-/// its own.
-pub(crate) fn work_and_gossip<L: Label + Send + Sync, R: Threads + Wait + Sync>(
+/// Makes the calls of a node's workers as `work` does, in threads, and does the node's gossip beside them.
+pub(crate) fn work_and_gossip<L: Waiting + Send + Sync, R: Threads + Wait + Sync>(
     rt: &R,
     alloc: Global,
-    registry: &Registry<L>,
-    waits: &Waits,
-    blocks: &[Block<'_>],
-    node: u8,
-    seat: Seat<L>,
-    gossip: Gossip,
-    seats: Vec<Seat<L>>,
+    crew: Crew<'_, L>,
+    gossiper: Gossiper<L>,
 ) -> Result<Both<L>, AllocError>
-    requires seat { seat ≡ 0 }
-    requires number { vec_len seats ≤ 65536 }
-    requires each { vec_len seats ≡ count_by (λ b. b.node == node) blocks.now }
-    requires fresh { All (λ calls. calls ≡ 0) seats.items }
-    ensures len { IfOk result (λ both. vec_len both.worked.seats ≡ vec_len seats) }
+    ensures len { IfOk result (λ both.
+        vec_len both.worked.seats ≡ vec_len crew.entry.seats) }
     ensures given { IfOk result (λ both.
         AreListsAt L.config L.seed both.worked.lists.items) }
     ensures calls { IfOk result (λ both. AreOfWorkers L.config L.seed
-        (of_node node (map block_value blocks.now))
+        (of_node crew.entry.node (map block_value crew.entry.blocks.now))
         both.worked.lists.items both.faults.items) }
     ensures gossiped { IfOk result (λ both. IfOk both.gossiped.receipts (λ rs.
-        IsGossip L.config L.seed (gossip.wire, gossip.rounds) both.gossiped.wire rs.items)) }
+        IsGossip L.config L.seed (gossiper.gossip.wire, gossiper.gossip.rounds)
+        both.gossiped.wire rs.items)) }
 {
-    let crew = Crew {
-        blocks,
-        node,
-        seat,
-        gossip,
-        seats,
-    };
-    let refused = AtomicBool::new(false);
-    let refused = &refused;
     thread::scope(
         thread::scope_env(),
         rt,
@@ -291,8 +284,8 @@ pub(crate) fn work_and_gossip<L: Label + Send + Sync, R: Threads + Wait + Sync>(
                 (of_node crew.entry.node (map block_value crew.entry.blocks.now))
                 both.worked.lists.items both.faults.items) }
             ensures gossiped { IfOk result (λ both. IfOk both.gossiped.receipts (λ rs.
-                IsGossip L.config L.seed (crew.entry.gossip.wire, crew.entry.gossip.rounds)
+                IsGossip L.config L.seed (gossiper.gossip.wire, gossiper.gossip.rounds)
                 both.gossiped.wire rs.items)) }
-        { work_in(scope, rt, alloc, registry, waits, refused, crew) },
+        { work_in(scope, rt, alloc, crew, gossiper) },
     )
 }

@@ -9,7 +9,7 @@ ghost use Rattle.thread_plans.specs.Plans.{plan_value};
 ghost use Rattle.thread_scripts.specs.Plays.{AreOfNode, AreOfWork, IsTraceOf};
 ghost use Rattle.thread_workers.specs.Workers.{AreListsAt, of_node};
 
-use crate::beside::{Both, Gossip, with_gossip, work_and_gossip};
+use crate::beside::{Both, Crew, Gossip, Gossiped, Gossiper, work_and_gossip};
 use crate::starts::make_starts;
 use node_core::{Config, NodeFault, Receipt, Trace};
 use node_registry::{Closed, Label, Registry, Seat};
@@ -19,7 +19,7 @@ use std::sync::Wait;
 use std::sync::ledger::Blank;
 use std::thread::Threads;
 use thread_plans::{ThreadPlan, blocks_at};
-use thread_workers::{Finished, Waits, work};
+use thread_workers::{Finished, Looks, Waiting, Waits, work};
 
 /// A node that is to run, with its gossip, if it does any.
 #[derive(Drop)]
@@ -29,36 +29,44 @@ pub(crate) struct NodeJob {
     ghost good: { is_bad_config config ≡ false },
 }
 
-/// What a node's run came to: its trace; of each seat the receipts of its calls, in their order; and why
-/// calls before its workers were refused, each with the place of its line in the plan, and calls of its
-/// workers.
+/// What a node's run came to: its trace; of each seat the receipts of its calls, in their order; why calls
+/// before its workers were refused, each with the place of its line in the plan, and calls of its workers;
+/// and the lines of its waits that were in vain.
 #[derive(Drop)]
 pub(crate) struct NodePlayed {
     pub trace: Trace,
     pub lists: Vec<Vec<Receipt>>,
     pub start_faults: Vec<(usize, NodeFault)>,
     pub faults: Vec<NodeFault>,
+    pub vain: Vec<u32>,
     ghost counted: { length trace.calls ≡ sum_by (λ list. vec_len list) lists.items },
 }
 
-/// Seats that are done, and why calls of workers were refused.
-type Worked<L> = (Finished<L>, Vec<NodeFault>);
+// Seats that are done, why calls of workers were refused, and the lines of waits that were in vain.
+type Worked<L> = (Finished<L>, Vec<NodeFault>, Vec<u32>);
 
-/// The same, and why calls before the workers were.
-type Made<L> = (Finished<L>, Vec<(usize, NodeFault)>, Vec<NodeFault>);
+// The same, and why calls before the workers were refused.
+#[derive(Drop)]
+struct Made<L: Label> {
+    finished: Finished<L>,
+    start_faults: Vec<(usize, NodeFault)>,
+    faults: Vec<NodeFault>,
+    vain: Vec<u32>,
+}
 
 // The calls of a node's workers, and its gossip beside them, from as many seats.
-fn make_calls_beside<L: Label + Send + Sync, R: Threads + Wait + Sync>(
+fn make_calls_beside<L: Waiting + Send + Sync, R: Threads + Wait + Sync>(
     rt: &R,
     alloc: Global,
     registry: &Registry<L>,
     finished: Finished<L>,
     mut seats: Vec<Seat<L>>,
     plan: &ThreadPlan<'_>,
-    waits: &Waits,
+    looks: &Looks<'_, L>,
     node: u8,
     gossip: Option<Gossip>,
 ) -> Result<Worked<L>, AllocError>
+    requires node { node ≡ L.config.node }
     requires few { vec_len seats < 2 ^ 8 }
     requires each { vec_len seats ≡ count_by (λ b. b.node == node) plan.now.blocks.items
         + cond (is_some gossip) 1 0 }
@@ -69,43 +77,48 @@ fn make_calls_beside<L: Label + Send + Sync, R: Threads + Wait + Sync>(
     ensures given { IfOk result (λ all. AreListsAt L.config L.seed all.0.lists.items) }
     ensures calls { IfOk result (λ all. AreOfWork L.config L.seed
         (of_node node (plan_value plan.now).blocks) (option_map (λ g. (g.wire, g.rounds)) gossip)
-        finished.lists.items all.0.lists.items all.1.items) }
+        L.waits finished.lists.items all.0.lists.items all.1.items all.2.items) }
 {
     let Some(gossip) = gossip else {
-        let (worked, faults) = work(rt, alloc, registry, waits, &plan.blocks, node, seats)?;
-        return Ok((finished.with_all(worked)?, faults));
+        let (worked, faults) = work(rt, alloc, registry, looks, &plan.blocks, node, seats)?;
+        let vain = looks.vain(rt, alloc, registry, node, &[])?;
+        return Ok((finished.with_all(worked)?, faults, vain));
     };
     let Some(seat) = seats.pop() else {
         unreachable!();
+    };
+    let crew = Crew {
+        registry,
+        looks,
+        blocks: &plan.blocks,
+        node,
+        seats,
     };
     let Both {
         worked,
         faults,
         gossiped,
-    } = work_and_gossip(
-        rt,
-        alloc,
-        registry,
-        waits,
-        &plan.blocks,
-        node,
+    } = work_and_gossip(rt, alloc, crew, Gossiper { seat, gossip })?;
+    let Gossiped {
         seat,
-        gossip,
-        seats,
-    )?;
+        wire: _,
+        receipts,
+    } = gossiped;
+    let receipts = receipts?;
+    let vain = looks.vain(rt, alloc, registry, node, &receipts)?;
     let finished = finished.with_all(worked)?;
-    Ok((with_gossip(finished, gossiped)?, faults))
+    Ok((finished.with(seat, receipts)?, faults, vain))
 }
 
 // Makes the calls of a node: first the ones before the workers, and then those of the workers and of
 // its gossip, in threads. All seats come back.
-fn make_calls<L: Label + Send + Sync, R: Threads + Wait + Sync>(
+fn make_calls<L: Waiting + Send + Sync, R: Threads + Wait + Sync>(
     rt: &R,
     alloc: Global,
     registry: &Registry<L>,
     mut seats: Vec<Seat<L>>,
     plan: &ThreadPlan<'_>,
-    waits: &Waits,
+    looks: &Looks<'_, L>,
     node: u8,
     gossip: Option<Gossip>,
 ) -> Result<Made<L>, AllocError>
@@ -114,10 +127,10 @@ fn make_calls<L: Label + Send + Sync, R: Threads + Wait + Sync>(
     requires each { vec_len seats ≡ count_by (λ b. b.node == node) plan.now.blocks.items + 1
         + cond (is_some gossip) 1 0 }
     requires fresh { All (λ calls. calls ≡ 0) seats.items }
-    ensures len { IfOk result (λ all. vec_len all.0.seats ≡ vec_len seats) }
+    ensures len { IfOk result (λ all. vec_len all.finished.seats ≡ vec_len seats) }
     ensures calls { IfOk result (λ all. AreOfNode L.config L.seed (plan_value plan.now)
-        (option_map (λ g. (g.wire, g.rounds)) gossip) all.0.lists.items
-        (all.1.items, all.2.items)) }
+        (option_map (λ g. (g.wire, g.rounds)) gossip) L.waits all.finished.lists.items
+        (all.start_faults.items, all.faults.items) all.vain.items) }
 {
     let finished = Finished::new(alloc);
     let Some(seat) = seats.pop() else {
@@ -132,14 +145,19 @@ fn make_calls<L: Label + Send + Sync, R: Threads + Wait + Sync>(
         node,
     )?;
     let finished = finished.with(seat, receipts)?;
-    let (all, faults) = make_calls_beside(
-        rt, alloc, registry, finished, seats, plan, waits, node, gossip,
+    let (all, faults, vain) = make_calls_beside(
+        rt, alloc, registry, finished, seats, plan, looks, node, gossip,
     )?;
-    Ok((all, start_faults, faults))
+    Ok(Made {
+        finished: all,
+        start_faults,
+        faults,
+        vain,
+    })
 }
 
 // Runs the node of the registry that `L` names: what that is, the caller picks.
-fn run_registry<L: Label + Send + Sync, R: Threads + Wait + Sync>(
+fn run_registry<L: Waiting + Send + Sync, R: Threads + Wait + Sync>(
     rt: &R,
     alloc: Global,
     blank: Blank,
@@ -155,10 +173,12 @@ fn run_registry<L: Label + Send + Sync, R: Threads + Wait + Sync>(
     requires config { job.config ≡ L.config }
     requires seed { plan.now.seed ≡ L.seed }
     requires keeps { L.keeps ≡ true }
+    requires waits { waits.now.awaits.items ≡ L.waits }
     ensures trace { IfOk result (λ played. IsTraceOf job.config plan.now.seed played.trace) }
     ensures lists { IfOk result (λ played. AreOfNode job.config plan.now.seed
         (plan_value plan.now) (option_map (λ g. (g.wire, g.rounds)) job.gossip)
-        played.lists.items (played.start_faults.items, played.faults.items)) }
+        waits.now.awaits.items played.lists.items
+        (played.start_faults.items, played.faults.items) played.vain.items) }
 {
     let NodeJob { config, gossip } = job;
     let started = Registry::<L>::start(rt, alloc, blank, config, plan.seed, seats);
@@ -166,11 +186,22 @@ fn run_registry<L: Label + Send + Sync, R: Threads + Wait + Sync>(
     let Ok((registry, seats)) = started else {
         return Err(AllocError);
     };
-    let node = config.node;
-    let (finished, start_faults, faults) = make_calls(
-        rt, alloc, &registry, seats, plan, waits, node, gossip,
+    let looks = Looks::new(alloc, waits)?;
+    let Made {
+        finished,
+        start_faults,
+        faults,
+        vain,
+    } = make_calls(
+        rt,
+        alloc,
+        &registry,
+        seats,
+        plan,
+        &looks,
+        config.node,
+        gossip,
     )?;
-    waits.settle(rt, &registry, node);
     let Finished { seats, lists } = finished;
     let Closed {
         from: _,
@@ -182,6 +213,7 @@ fn run_registry<L: Label + Send + Sync, R: Threads + Wait + Sync>(
         lists,
         start_faults,
         faults,
+        vain,
     })
 }
 
@@ -204,7 +236,8 @@ pub(crate) fn run_node<R: Threads + Wait + Sync>(
     ensures trace { IfOk result (λ played. IsTraceOf job.config plan.now.seed played.trace) }
     ensures lists { IfOk result (λ played. AreOfNode job.config plan.now.seed
         (plan_value plan.now) (option_map (λ g. (g.wire, g.rounds)) job.gossip)
-        played.lists.items (played.start_faults.items, played.faults.items)) }
+        waits.now.awaits.items played.lists.items
+        (played.start_faults.items, played.faults.items) played.vain.items) }
 {
     let seats = seats_at(plan, &job);
     let blank = Blank::new(u64::from(seats));

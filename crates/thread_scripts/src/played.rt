@@ -4,8 +4,8 @@ ghost use Rattle.std.specs.Prelude.{◌≡◌, ◌+◌, ◌++◌, ◌∷◌, [],
 ghost use Rattle.std.specs.List.{sum_by};
 ghost use Rattle.thread_plans.specs.Plans.{plan_value};
 ghost use Rattle.thread_scripts.specs.Gossips.{gossip_over};
-ghost use Rattle.thread_scripts.specs.Plays.{AllFrom, AreListsOf, AreOfNode, AreTracesOf};
-ghost use Rattle.thread_scripts.specs.Plays.{IsTraceOf, config_at, gossip_at};
+ghost use Rattle.thread_scripts.specs.Plays.{AllFrom, AreListsOf, AreListsWaiting, AreOfNode};
+ghost use Rattle.thread_scripts.specs.Plays.{AreTracesOf, IsTraceOf, config_at, gossip_at};
 
 use crate::beside::Gossip;
 use crate::nodes::{NodeJob, NodePlayed, run_node};
@@ -20,14 +20,16 @@ use thread_workers::{Waits, put_behind};
 
 /// What a plan came to: the traces of its nodes, in their order; of each seat the receipts of its calls,
 /// in their order; why calls before the workers were refused, in the order of the nodes and of their
-/// lines, each with the place of its line among the plan's; and why calls of workers were, in the order
-/// of the nodes, of their blocks, and of the calls of each.
+/// lines, each with the place of its line among the plan's; why calls of workers were, in the order of the
+/// nodes, of their blocks, and of the calls of each; and the lines of waits that were in vain, in the order
+/// of the nodes.
 #[derive(Drop)]
 pub struct Played {
     pub traces: Vec<Trace>,
     pub lists: Vec<Vec<Receipt>>,
     pub start_faults: Vec<(usize, NodeFault)>,
     pub faults: Vec<NodeFault>,
+    pub vain: Vec<u32>,
     ghost counted: { sum_by (λ trace. length trace.calls) traces.items
         ≡ sum_by (λ list. vec_len list) lists.items },
 }
@@ -39,12 +41,14 @@ impl Played {
         ensures no_list { result.lists.items ≡ [] }
         ensures no_start_fault { result.start_faults.items ≡ [] }
         ensures no_fault { result.faults.items ≡ [] }
+        ensures none_in_vain { result.vain.items ≡ [] }
     {
         Played {
             traces: Vec::new(alloc),
             lists: Vec::new(alloc),
             start_faults: Vec::new(alloc),
             faults: Vec::new(alloc),
+            vain: Vec::new(alloc),
         }
     }
 
@@ -59,28 +63,34 @@ impl Played {
             all.start_faults.items ≡ self.start_faults.items ++ node.start_faults.items) }
         ensures faults { IfOk result (λ all.
             all.faults.items ≡ self.faults.items ++ node.faults.items) }
+        ensures vain { IfOk result (λ all.
+            all.vain.items ≡ self.vain.items ++ node.vain.items) }
     {
         let Played {
             mut traces,
             mut lists,
             mut start_faults,
             mut faults,
+            mut vain,
         } = self;
         let NodePlayed {
             trace,
             lists: others,
             start_faults: before,
             faults: more,
+            vain: lines,
         } = node;
         traces.push(trace)?;
         put_behind(&mut lists, others)?;
         put_behind(&mut start_faults, before)?;
         put_behind(&mut faults, more)?;
+        put_behind(&mut vain, lines)?;
         Ok(Played {
             traces,
             lists,
             start_faults,
             faults,
+            vain,
         })
     }
 
@@ -141,8 +151,8 @@ fn run_all<R: Threads + Wait + Sync>(
         runs.items) }
     ensures lists { IfOk result (λ runs. AllFrom (λ node run. IfOk run (λ played.
         AreOfNode (config_at (plan_value plan.now) node) plan.now.seed (plan_value plan.now)
-        (gossip_at (plan_value plan.now) node) played.lists.items
-        (played.start_faults.items, played.faults.items))) 0 runs.items) }
+        (gossip_at (plan_value plan.now) node) waits.now.awaits.items played.lists.items
+        (played.start_faults.items, played.faults.items) played.vain.items)) 0 runs.items) }
 {
     let jobs = jobs_of(alloc, plan)?;
     let run = |job: NodeJob| -> Result<NodePlayed, AllocError>
@@ -150,7 +160,8 @@ fn run_all<R: Threads + Wait + Sync>(
             IsTraceOf job.config plan.entry.now.seed played.trace) }
         ensures lists { IfOk result (λ played. AreOfNode job.config plan.entry.now.seed
             (plan_value plan.entry.now) (option_map (λ g. (g.wire, g.rounds)) job.gossip)
-            played.lists.items (played.start_faults.items, played.faults.items)) }
+            waits.entry.now.awaits.items played.lists.items
+            (played.start_faults.items, played.faults.items) played.vain.items) }
     { run_node(rt, alloc, plan, waits, job) };
     thread::map_vec(rt, jobs, &run)
 }
@@ -174,7 +185,8 @@ pub fn play<R: Threads + Wait + Sync>(
     play_waiting(rt, alloc, plan, &Waits::none(alloc))
 }
 
-/// Plays a plan as `play` does, with workers that wait.
+/// Plays a plan as `play` does, with workers that wait. Of each wait in vain some state of its node, after
+/// the last call of the node's gossip, doesn't know the setting; of each other, some state knows it.
 pub fn play_waiting<R: Threads + Wait + Sync>(
     rt: &R,
     alloc: Global,
@@ -185,8 +197,8 @@ pub fn play_waiting<R: Threads + Wait + Sync>(
     ensures traces { IfOk result (λ played.
         AreTracesOf (plan_value plan.now) played.traces.items) }
     ensures lists { IfOk result (λ played.
-        AreListsOf (plan_value plan.now) played.lists.items
-        (played.start_faults.items, played.faults.items)) }
+        AreListsWaiting (plan_value plan.now) waits.now.awaits.items played.lists.items
+        (played.start_faults.items, played.faults.items) played.vain.items) }
 {
     let mut played = Played::new(alloc);
     for run in run_all(rt, alloc, plan, waits)? {

@@ -2,3 +2,4 @@ pub mod LineAsks
 pub mod Made
 pub mod Seats
 pub mod Faults
+pub mod Waited

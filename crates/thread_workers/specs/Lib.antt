@@ -1,4 +1,5 @@
 pub mod Asks
 pub mod Calls
 pub mod Known
+pub mod Waits
 pub mod Workers

@@ -1,7 +1,11 @@
 //! When workers may call.
 
-use crate::waits::{Await, Waits, is_known_at};
-use node_registry::{Gate, Label, Registry};
+ghost use Rattle.std.specs.Prelude.{◌≡◌, slice_get, Some};
+
+use crate::looks::{Look, Looks};
+use crate::waiting::Waiting;
+use crate::waits::Await;
+use node_registry::{Gate, Registry};
 use std::sync::Wait;
 use std::thread;
 
@@ -10,10 +14,10 @@ const YIELDS: u32 = 64;
 
 /// Lets the workers of a node wait before calls, and then make them.
 #[derive(Drop)]
-pub(crate) struct Turns<'a, L: Label, R: Wait> {
+pub(crate) struct Turns<'a, L: Waiting, R: Wait> {
     pub rt: &'a R,
     pub registry: &'a Registry<L>,
-    pub waits: &'a Waits,
+    pub looks: &'a Looks<'a, L>,
     pub node: u8,
 }
 
@@ -23,11 +27,11 @@ fn let_others_run() {
     }
 }
 
-impl<L: Label, R: Wait> Turns<'_, L, R> {
+impl<L: Waiting, R: Wait> Turns<'_, L, R> {
     // Waits until the first rounds are done.
     fn wait_first(&self) {
         for _ in self.rt.forever() {
-            if self.waits.are_first_done(self.node) {
+            if self.looks.waits.are_first_done(self.node) {
                 return;
             }
             let_others_run();
@@ -36,12 +40,14 @@ impl<L: Label, R: Wait> Turns<'_, L, R> {
 
     // Waits until the node knows the setting, or its gossip is over. Whether that is so is looked at
     // before: what the last round brought is known then.
-    fn wait_for(&self, wait: &Await) {
+    fn wait_for(&self, place: usize, wait: &Await)
+        requires { slice_get L.waits place ≡ Some wait.now }
+    {
         for _ in self.rt.forever() {
-            let is_over = self.waits.is_over(self.node);
-            let is_known = is_known_at(self.rt, self.registry, wait);
-            if is_known || is_over {
-                wait.come(is_known);
+            let is_over = self.looks.waits.is_over(self.node);
+            let look = Look::now(self.rt, self.registry, place, wait);
+            if look.is_known() || is_over {
+                self.looks.keep(self.rt, look);
                 return;
             }
             let_others_run();
@@ -49,7 +55,7 @@ impl<L: Label, R: Wait> Turns<'_, L, R> {
     }
 }
 
-impl<L: Label, R: Wait> Gate for Turns<'_, L, R> {
+impl<L: Waiting, R: Wait> Gate for Turns<'_, L, R> {
     ghost use Rattle.std.specs.Prelude.{◌≡◌, true};
 
     ghost says = { λ _ _ _ answer. answer ≡ true };
@@ -58,9 +64,9 @@ impl<L: Label, R: Wait> Gate for Turns<'_, L, R> {
         if index == 0 {
             self.wait_first();
         }
-        for wait in self.waits.awaits() {
+        for (place, wait) in self.looks.waits.awaits.iter().enumerate() {
             if wait.is_before(self.node, worker, index) {
-                self.wait_for(wait);
+                self.wait_for(place, wait);
             }
         }
         true

@@ -1,6 +1,6 @@
 //! What workers wait for.
 
-ghost use Rattle.std.specs.Prelude.{◌≡◌};
+ghost use Rattle.std.specs.Prelude.{◌≡◌, [], IfOk};
 ghost use Rattle.node_core.specs.Traces.{state_known};
 ghost use Rattle.operations.specs.Counts.{given_key};
 ghost use Rattle.thread_workers.specs.Known.{is_known, is_set, is_since};
@@ -8,12 +8,9 @@ ghost use Rattle.thread_workers.specs.Known.{is_known, is_set, is_since};
 use crate::steps::Steps;
 use actions::Name;
 use node_core::NodeCore;
-use node_registry::{Label, Registry};
 use replica_state::Replica;
 use stamp_register::{Body, Key, Stamp};
 use std::alloc::{AllocError, Global};
-use std::sync::Wait;
-use std::sync::atomic::{AtomicBool, Ordering};
 use thread_plans::ThreadPlan;
 
 /// Before its call of this index a worker of a node waits until the node knows a setting of this point,
@@ -29,44 +26,11 @@ pub struct Await {
     /// The point; none where the text is no name, so that no node ever knows it.
     pub name: Option<Name>,
     pub stamp: Option<Stamp>,
-    has_come: AtomicBool,
-    is_in_vain: AtomicBool,
 }
 
 impl Await {
-    /// A line that waits.
-    pub fn new(
-        line: u32,
-        node: u8,
-        worker: u16,
-        index: u32,
-        name: Option<Name>,
-        stamp: Option<Stamp>,
-    ) -> Await {
-        Await {
-            line,
-            node,
-            worker,
-            index,
-            name,
-            stamp,
-            has_come: AtomicBool::new(false),
-            is_in_vain: AtomicBool::new(false),
-        }
-    }
-
-    /// Whether gossip was over, and the node knew no such setting.
-    pub fn is_in_vain(&self) -> bool {
-        self.is_in_vain.load(Ordering::SeqCst)
-    }
-
     pub(crate) fn is_before(&self, node: u8, worker: u16, index: u32) -> bool {
         self.node == node && self.worker == worker && self.index == index
-    }
-
-    pub(crate) fn come(&self, is_known: bool) {
-        self.is_in_vain.store(!is_known, Ordering::SeqCst);
-        self.has_come.store(true, Ordering::SeqCst);
     }
 }
 
@@ -109,13 +73,16 @@ pub fn is_known(core: &NodeCore, name: &Name, stamp: Option<Stamp>) -> bool
 pub struct Waits {
     // So many rounds are done before any worker calls.
     first: u64,
-    awaits: Vec<Await>,
+    /// The lines that wait.
+    pub awaits: Vec<Await>,
     steps: Option<Steps>,
 }
 
 impl Waits {
     /// For nothing, and rounds go as they go.
-    pub fn none(alloc: Global) -> Waits {
+    pub fn none(alloc: Global) -> Waits
+        ensures { result.awaits.items ≡ [] }
+    {
         Waits {
             first: 0,
             awaits: Vec::new(alloc),
@@ -130,7 +97,9 @@ impl Waits {
         plan: &ThreadPlan<'_>,
         first: u32,
         awaits: Vec<Await>,
-    ) -> Result<Waits, AllocError> {
+    ) -> Result<Waits, AllocError>
+        ensures { IfOk result (λ waits. waits.awaits.items ≡ awaits.items) }
+    {
         let steps = match plan.gossip {
             Some(_) => Some(Steps::new(alloc, plan.size.nodes)?),
             None => None,
@@ -140,11 +109,6 @@ impl Waits {
             awaits,
             steps,
         })
-    }
-
-    /// The lines that wait.
-    pub fn awaits(&self) -> &[Await] {
-        &self.awaits
     }
 
     /// The rounds of gossip, where they are in step.
@@ -172,22 +136,5 @@ impl Waits {
         if let Some(steps) = &self.steps {
             steps.leave(node);
         }
-    }
-
-    /// What no call stood behind, or whose worker didn't start, is looked at in the end.
-    pub fn settle<L: Label, R: Wait>(&self, rt: &R, registry: &Registry<L>, node: u8) {
-        for wait in &self.awaits {
-            if wait.node == node && !wait.has_come.load(Ordering::SeqCst) {
-                wait.come(is_known_at(rt, registry, wait));
-            }
-        }
-    }
-}
-
-/// Whether a node knows now what is waited for.
-pub(crate) fn is_known_at<L: Label, R: Wait>(rt: &R, registry: &Registry<L>, wait: &Await) -> bool {
-    match &wait.name {
-        Some(name) => registry.with(rt, |core| is_known(core, name, wait.stamp)),
-        None => false,
     }
 }

@@ -10,22 +10,23 @@ ghost use Rattle.thread_workers.specs.Workers.{AreListsAt, AreOfWorkers, of_node
 
 use crate::asks::jobs_of;
 use crate::finished::Finished;
+use crate::looks::Looks;
 use crate::refused::faults_of;
 use crate::turns::Turns;
-use crate::waits::Waits;
+use crate::waiting::Waiting;
 use node_core::NodeFault;
-use node_registry::{Done, Job, Label, Registry, Seat, run_workers};
+use node_registry::{Done, Job, Registry, Seat, run_workers};
 use std::alloc::{AllocError, Global};
 use std::sync::Wait;
 use std::thread::Threads;
 use thread_plans::Block;
 
 // Makes the calls of workers, each in a thread of its own.
-fn make_calls<L: Label + Send + Sync, R: Threads + Wait + Sync>(
+fn make_calls<L: Waiting + Send + Sync, R: Threads + Wait + Sync>(
     rt: &R,
     alloc: Global,
     registry: &Registry<L>,
-    waits: &Waits,
+    looks: &Looks<'_, L>,
     node: u8,
     jobs: Vec<Job<'_, L>>,
 ) -> Result<Vec<Done<L>>, AllocError>
@@ -43,7 +44,7 @@ fn make_calls<L: Label + Send + Sync, R: Threads + Wait + Sync>(
     let turns = Turns {
         rt,
         registry,
-        waits,
+        looks,
         node,
     };
     match run_workers(rt, alloc, jobs, &turns) {
@@ -53,14 +54,15 @@ fn make_calls<L: Label + Send + Sync, R: Threads + Wait + Sync>(
 }
 
 /// Makes the calls of those of these blocks that are a node's, each block in a thread of its own that waits
-/// before calls as `waits` says, from as many seats without a call. Answers these seats with a list for each
-/// block, in their order, and why calls of these blocks were refused, in the order of the blocks and of the
-/// calls of each. Where memory is refused to one of them, it is to all.
-pub fn work<L: Label + Send + Sync, R: Threads + Wait + Sync>(
+/// before calls as `looks` says, from as many seats without a call; and keeps there what the node knew when a
+/// wait ended. Answers these seats with a list for each block, in their order, and why calls of these
+/// blocks were refused, in the order of the blocks and of the calls of each. Where memory is refused to one
+/// of them, it is to all.
+pub fn work<L: Waiting + Send + Sync, R: Threads + Wait + Sync>(
     rt: &R,
     alloc: Global,
     registry: &Registry<L>,
-    waits: &Waits,
+    looks: &Looks<'_, L>,
     blocks: &[Block<'_>],
     node: u8,
     seats: Vec<Seat<L>>,
@@ -74,7 +76,7 @@ pub fn work<L: Label + Send + Sync, R: Threads + Wait + Sync>(
         (of_node node (map block_value blocks.now)) all.0.lists.items all.1.items) }
 {
     let jobs = jobs_of(alloc, registry, seats, blocks, node)?;
-    let dones = make_calls(rt, alloc, registry, waits, node, jobs)?;
+    let dones = make_calls(rt, alloc, registry, looks, node, jobs)?;
     let faults = faults_of(alloc, &dones)?;
     Ok((Finished::new(alloc).with_workers(dones)?, faults))
 }

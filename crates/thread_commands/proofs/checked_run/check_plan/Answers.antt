@@ -2,6 +2,7 @@ use Rattle.std.proofs.Common.{◌≡◌, ◌∙◌, ℕ, Result, ap, refl, rules
 use Rattle.std.specs.Prelude.{IfOk, string_bytes}
 use Rattle.thread_plans.specs.Plans.{PlanValue, plan_value}
 use Rattle.thread_scripts.specs.Outputs.{IsJudged}
+use Rattle.thread_scripts.specs.Plays.{AreListsWaiting}
 use Rattle.thread_checks.specs.Checked.{failed_text, plan_with}
 use Rattle.thread_commands.proofs.checked_run.check_plan.Goals as goal
 
@@ -19,15 +20,18 @@ returns-clause-ok g c =
     ) at c.in_ok-said.ensures in
     record {
       plan = plan_value c.args.plan;
-      vain = c.in_ok-vain.vain.items;
+      waits = c.in_ok-waits.waits.awaits.items;
+      vain = played.vain.items;
       explained = c.in_ok-text.yes;
       read = search rules;
       legal = search (rules, same);
-      given = search (rules, same);
+      waiting = c.in_ok-waits.ensures;
+      given = subst (λ p. AreListsWaiting p c.in_ok-waits.waits.awaits.items played.lists.items
+          (played.start_faults.items, played.faults.items) played.vain.items) same c.in_ok-played.ensures.lists;
       judged = subst (λ p. IsJudged p played.traces.items played.lists.items
           (string_bytes c.in_ok-text.text) c.in_ok-text.yes) same c.in_ok-text.ensures;
       failed = subst (λ p. c.in_ok-said.said.items ≡ failed_text c.args.script.now p played.lists.items
-          (played.start_faults.items, played.faults.items) c.in_ok-vain.vain.items (string_bytes c.in_ok-text.text)
+          (played.start_faults.items, played.faults.items) played.vain.items (string_bytes c.in_ok-text.text)
           c.in_ok-text.yes) same told;
     }
 

@@ -9,20 +9,23 @@ pub returns-clause-calls : goal.returns-clause-calls
 returns-clause-calls g c =
     let config = g.L.Label.config in
     let seed = g.L.Label.seed in
+    let waits = g.L.Waiting.waits in
     let plan = plan_value c.args.plan.now in
     let gossip = option_map (λ g. (g.wire, g.rounds)) c.args.gossip in
     let starts = c.in_ok-seat.receipts in
     let first : c.in_ok-finished.finished.lists.items ≡ starts ∷ [] =
     c.in_ok-finished.ensures.lists ∙ ap (λ ls. ls ++ starts ∷ []) c.new-finished.ensures.none in
-    let lists = c.in_ok-all.all.lists.items in
-    let faults = c.in_ok-all.faults.items in
+    let all = c.in_ok-all in
+    let lists = all.all.lists.items in
+    let faults = all.faults.items in
+    let vain = all.vain.items in
     record {
       starts = starts;
       refused = c.in_ok-seat.field-0-2;
-      given = c.in_ok-all.ensures.given;
+      given = all.ensures.given;
       started = rw c.deref.ensures.value at c.in_ok-seat.ensures.done;
-      beside = subst (λ node. AreOfWork config seed (of_node node plan.blocks) gossip (starts ∷ []) lists faults)
+      beside = subst (λ node. AreOfWork config seed (of_node node plan.blocks) gossip waits (starts ∷ []) lists faults vain)
           c.requires.node
-          (subst (λ was. AreOfWork config seed (of_node c.args.node plan.blocks) gossip was lists faults) first
-          c.in_ok-all.ensures.calls);
+          (subst (λ was. AreOfWork config seed (of_node c.args.node plan.blocks) gossip waits was lists faults vain) first
+          all.ensures.calls);
     }

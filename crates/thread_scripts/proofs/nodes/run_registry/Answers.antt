@@ -13,7 +13,12 @@ pub returns-clause-lists : goal.returns-clause-lists
 returns-clause-lists g c =
     let plan = plan_value c.args.plan.now in
     let gossip = option_map (λ g. (g.wire, g.rounds)) c.args.job.gossip in
-    let lists = c.in_ok-finished.finished.lists.items in
-    let faults : RunFaults = (c.in_ok-finished.start_faults.items, c.in_ok-finished.faults.items) in
-    subst (λ k. AreOfNode k c.args.plan.now.seed plan gossip lists faults) (sym c.requires.config)
-    (subst (λ s. AreOfNode g.L.Label.config s plan gossip lists faults) (sym c.requires.seed) c.in_ok-finished.ensures.calls)
+    let made = c.in_ok-finished.field-0 in
+    let lists = made.finished.lists.items in
+    let faults : RunFaults = (made.start_faults.items, made.faults.items) in
+    let vain = made.vain.items in
+    subst (λ ws. AreOfNode c.args.job.config c.args.plan.now.seed plan gossip ws lists faults vain)
+    (sym c.requires.waits)
+    (subst (λ k. AreOfNode k c.args.plan.now.seed plan gossip g.L.Waiting.waits lists faults vain) (sym c.requires.config)
+    (subst (λ s. AreOfNode g.L.Label.config s plan gossip g.L.Waiting.waits lists faults vain) (sym c.requires.seed)
+    c.in_ok-finished.ensures.calls))
