@@ -129,15 +129,6 @@ fn in_turn<L: Label, M: Label, R: Wait>(
     Ok(((told, other_told), shown))
 }
 
-// The points that a node lists.
-fn list<L: Label, R: Wait>(
-    rt: &R,
-    alloc: Global,
-    registry: &Registry<L>,
-) -> Result<String, AllocError> {
-    registry.with(rt, |node| node.list(alloc))
-}
-
 // The wires of two nodes.
 fn two_wires(alloc: Global) -> Result<(MailWire, MailWire), Fail> {
     let mut wires = MailWire::all(alloc, 2)?;
