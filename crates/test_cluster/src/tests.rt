@@ -3,6 +3,7 @@
 //! wire that fails leaves behind. And tables of what scripts, nodes, clusters, audits, recordings and
 //! requests are answered, each answer found by hand.
 
+mod audited_workers;
 mod audits;
 mod batches;
 mod callers;
@@ -17,10 +18,13 @@ mod messages;
 mod nodes;
 mod pieces;
 mod printed_scripts;
+mod printed_threads;
+mod recordings;
 mod registry;
 mod requests;
 mod resumed;
 mod rounds;
+mod spreads;
 mod stage;
 mod workers;
 
