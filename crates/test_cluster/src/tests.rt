@@ -24,6 +24,7 @@ mod registry;
 mod requests;
 mod resumed;
 mod rounds;
+mod served;
 mod spreads;
 mod stage;
 mod workers;
