@@ -5,7 +5,6 @@
 
 mod audited_workers;
 mod audits;
-mod batches;
 mod callers;
 mod calls;
 mod draws;

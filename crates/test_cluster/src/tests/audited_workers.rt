@@ -30,8 +30,12 @@ fn played<R: Threads + Wait + Sync>(rt: &R, alloc: Global) -> Result<Played, Fai
 }
 
 // Audits a run, without the contract of `audit`.
-fn audited(alloc: Global, played: &Played) -> Result<AuditYes, AuditFault> {
-    audit(alloc, 2, &played.traces, &played.lists)
+fn audited(
+    alloc: Global,
+    traces: &[Trace],
+    lists: &[Vec<Receipt>],
+) -> Result<AuditYes, AuditFault> {
+    audit(alloc, 2, traces, lists)
 }
 
 // Whether a reply says that the first term was triggered.
@@ -46,9 +50,9 @@ fn acts_in(list: &[Receipt]) -> u128 {
 }
 
 // The number of receipts that say that the first term was triggered.
-fn acts_told(played: &Played) -> u128 {
+fn acts_told(lists: &[Vec<Receipt>]) -> u128 {
     let mut acts = 0u128;
-    for list in &played.lists {
+    for list in lists {
         acts = acts.saturating_add(acts_in(list));
     }
     acts
@@ -64,8 +68,8 @@ fn is_altered(reply: &mut Reply) -> bool {
 }
 
 // Alters the first receipt of a triggered term.
-fn alter(played: &mut Played) {
-    for list in played.lists.iter_mut() {
+fn alter(lists: &mut [Vec<Receipt>]) {
+    for list in lists.iter_mut() {
         for receipt in list.iter_mut() {
             if is_altered(&mut receipt.entry.reply) {
                 return;
@@ -84,12 +88,20 @@ fn executed(verdict: &Result<AuditYes, AuditFault>) -> Result<u128, AuditFault> 
 
 #[test]
 fn workers_under_audit(rt: HostRuntime) -> Result<(), Fail> {
-    let mut played = played(&rt, rt.alloc())?;
-    let acts = acts_told(&played);
-    expect(&rt, &executed(&audited(rt.alloc(), &played)), &Ok(acts));
+    let Played {
+        traces,
+        mut lists,
+        ..
+    } = played(&rt, rt.alloc())?;
+    let acts = acts_told(&lists);
+    expect(
+        &rt,
+        &executed(&audited(rt.alloc(), &traces, &lists)),
+        &Ok(acts),
+    );
     expect(&rt, &(acts > 0 && acts <= 5), &true);
-    alter(&mut played);
-    let found = executed(&audited(rt.alloc(), &played));
+    alter(&mut lists);
+    let found = executed(&audited(rt.alloc(), &traces, &lists));
     expect(&rt, &found, &Err(AuditFault::ReceiptDiffers));
     Ok(())
 }
