@@ -1,9 +1,13 @@
-//! What no contract says: that what callers are told is what the trace has, and that two nodes have two
-//! locks; what mailboxes carry, what rounds send and when, and what a wire that fails leaves behind.
-//! And tables of what scripts, nodes, clusters, audits and requests are answered, each answer found by
-//! hand.
+//! What no contract says: that callers receive what the trace has, that two nodes have two locks, and that
+//! workers run at the same time; what mailboxes and HTTP carry, what rounds send and when, and what a
+//! wire that fails leaves behind. And tables of what scripts, nodes, clusters, audits, recordings and
+//! requests are answered, each answer found by hand.
 
+mod audited_workers;
 mod audits;
+mod callers;
+mod calls;
+mod draws;
 mod entries;
 mod events;
 mod failing;
@@ -11,12 +15,18 @@ mod fleet;
 mod mail;
 mod messages;
 mod nodes;
+mod pieces;
 mod printed_scripts;
+mod printed_threads;
+mod recordings;
 mod registry;
 mod requests;
 mod resumed;
 mod rounds;
+mod served;
+mod spreads;
 mod stage;
+mod workers;
 
 use actions::Name;
 use cluster_model::{Event, RunReport, World, WorldFault};
@@ -27,8 +37,8 @@ use gossip::{
     Ended, GossipReport, MailWire, Pace, Reach, Wire, WireError, gossip_news, gossip_rounds,
 };
 use node_core::{Ask, AskRef, Config, Entry, NodeCore, NodeFault, Receipt, Reply, Trace};
-use node_registry::{Label, PassOutcome, PassReceipt, Registry, Seat};
-use stage::{EMPTY, FIRST_OF_THREE, FIRST_OF_TWO, SECOND_OF_TWO, opened};
+use node_registry::{Guarded, Label, NodeCell, PassOutcome, PassReceipt, Registry, Seat};
+use stage::{EMPTY, FIRST_OF_THREE, FIRST_OF_TWO, SECOND_OF_TWO, list, one_seat, opened, started};
 use stamp_register::Stamp;
 use std::alloc::{AllocError, Global};
 use std::fmt::{Debug, Write};

@@ -129,20 +129,30 @@ fn in_turn<L: Label, M: Label, R: Wait>(
     Ok(((told, other_told), shown))
 }
 
-// The points that a node lists.
-fn list<L: Label, R: Wait>(
-    rt: &R,
-    alloc: Global,
-    registry: &Registry<L>,
-) -> Result<String, AllocError> {
-    registry.with(rt, |node| node.list(alloc))
-}
-
 // The wires of two nodes.
 fn two_wires(alloc: Global) -> Result<(MailWire, MailWire), Fail> {
     let mut wires = MailWire::all(alloc, 2)?;
     let second = wires.pop().ok_or("the second")?;
     let first = wires.pop().ok_or("the first")?;
+    Ok((first, second))
+}
+
+// Two nodes with mailboxes. The first has set `a`.
+fn two_tellers<L: Label, M: Label, R: Wait>(
+    rt: &R,
+    alloc: Global,
+    zero: Blank,
+    one: Blank,
+) -> Result<(Teller<L, MailWire>, Teller<M, MailWire>), Fail>
+    requires zero { (zero.name ≡ L.name) × (zero.parts ≡ L.parts) × (L.parts ≡ 1) }
+    requires one { (one.name ≡ M.name) × (one.parts ≡ M.parts) × (M.parts ≡ 1) }
+    requires first { FIRST_OF_TWO ≡ L.config }
+    requires second { SECOND_OF_TWO ≡ M.config }
+    requires seeds { (replicate 32 0 ≡ L.seed) × (replicate 32 0 ≡ M.seed) }
+{
+    let (wire, other) = two_wires(alloc)?;
+    let first = seated::<L, MailWire, R>(rt, alloc, zero, FIRST_OF_TWO, "a=off", wire)?;
+    let second = seated::<M, MailWire, R>(rt, alloc, one, SECOND_OF_TWO, "", other)?;
     Ok((first, second))
 }
 
@@ -161,9 +171,7 @@ fn mail<L: Label, M: Label, R: Wait>(
     requires second { SECOND_OF_TWO ≡ M.config }
     requires seeds { (replicate 32 0 ≡ L.seed) × (replicate 32 0 ≡ M.seed) }
 {
-    let (wire, other) = two_wires(alloc)?;
-    let mut first = seated::<L, MailWire, R>(rt, alloc, zero, FIRST_OF_TWO, "a=off", wire)?;
-    let mut second = seated::<M, MailWire, R>(rt, alloc, one, SECOND_OF_TWO, "", other)?;
+    let (mut first, mut second) = two_tellers::<L, M, R>(rt, alloc, zero, one)?;
     in_turn(rt, alloc, &mut first, &mut second, way)
 }
 
@@ -194,7 +202,7 @@ fn news_are_told_once(rt: HostRuntime) -> Result<(), Fail> {
 /// receipts there are; and how rounds ended.
 type Counts = ([u64; 4], u64, Ended);
 
-fn counted(report: &GossipReport) -> Counts {
+pub(super) fn counted(report: &GossipReport) -> Counts {
     let counts = [
         report.emitted,
         report.lost,
@@ -220,6 +228,12 @@ const TWO_EMPTY: Waiting = Waiting {
 const TWO_SHORT: Waiting = Waiting {
     message: &[0; 31],
     times: 2,
+};
+
+/// The first 31 bytes of a message of 32.
+const ONE_CUT: Waiting = Waiting {
+    message: b"FPG1\x01\0\0\0\0\0\0\0\0\0\0\0\0\0\0\0\0\0\0\0\0\0\0\0\0\0\0",
+    times: 1,
 };
 
 /// As many as a mailbox holds.
@@ -266,6 +280,7 @@ const ROUNDS: &[(Waiting, &[Row], Ended)] = &[
     (TWO_EMPTY, ALL_DONE, Ended::Done),
     (TWO_EMPTY, NO_MEMORY, Ended::OutOfMemory),
     (TWO_SHORT, &[(Fails::Never, 1, [2, 0, 0, 2])], Ended::Done),
+    (ONE_CUT, &[(Fails::Never, 1, [2, 0, 0, 1])], Ended::Done),
     (MANY_SHORT, &[(Fails::Never, 1, [2, 0, 0, 64])], Ended::Done),
 ];
 
@@ -431,5 +446,48 @@ fn a_peer_that_is_gone_is_tried_less_often(rt: HostRuntime) -> Result<(), Fail> 
         let found = (tried.as_slice(), all, accepted);
         expect(&rt, &found, &(*rounds, *lost, *calls));
     }
+    Ok(())
+}
+
+// Does a round of each of two nodes. Returns what each counts, and its points.
+fn round_of_each<L: Label, M: Label, R: Wait>(
+    rt: &R,
+    alloc: Global,
+    first: &mut Teller<L, MailWire>,
+    second: &mut Teller<M, MailWire>,
+) -> Result<((Counts, String), (Counts, String)), AllocError> {
+    let counts = counted(&rounds_of(rt, alloc, first, 1));
+    let others = counted(&rounds_of(rt, alloc, second, 1));
+    let points = list(rt, alloc, &first.registry)?;
+    let last = list(rt, alloc, &second.registry)?;
+    Ok(((counts, points), (others, last)))
+}
+
+// The same for new nodes.
+fn round_by_mail<L: Label, M: Label, R: Wait>(
+    rt: &R,
+    alloc: Global,
+    zero: Blank,
+    one: Blank,
+) -> Result<((Counts, String), (Counts, String)), Fail>
+    requires zero { (zero.name ≡ L.name) × (zero.parts ≡ L.parts) × (L.parts ≡ 1) }
+    requires one { (one.name ≡ M.name) × (one.parts ≡ M.parts) × (M.parts ≡ 1) }
+    requires first { FIRST_OF_TWO ≡ L.config }
+    requires second { SECOND_OF_TWO ≡ M.config }
+    requires seeds { (replicate 32 0 ≡ L.seed) × (replicate 32 0 ≡ M.seed) }
+{
+    let (mut first, mut second) = two_tellers::<L, M, R>(rt, alloc, zero, one)?;
+    Ok(round_of_each(rt, alloc, &mut first, &mut second)?)
+}
+
+// The second node receives the message of the first. The first does its round before that of the second.
+#[test]
+fn a_round_of_each_of_two_nodes(rt: HostRuntime) -> Result<(), Fail> {
+    let (zero, one) = (Blank::new(1), Blank::new(1));
+    let (first, second) = round_by_mail::<Brand, Brand, HostRuntime>(&rt, rt.alloc(), zero, one)?;
+    let wanted: (Counts, &str) = (([1, 0, 0, 0], 1, Ended::Done), "a=off");
+    expect(&rt, &(first.0, first.1.as_str()), &wanted);
+    let wanted: (Counts, &str) = (([1, 0, 1, 0], 2, Ended::Done), "a=off");
+    expect(&rt, &(second.0, second.1.as_str()), &wanted);
     Ok(())
 }

@@ -1,6 +1,6 @@
 //! What the tests of rounds stand on. None of it states anything.
 
-ghost use Rattle.std.specs.Prelude.{◌≡◌, replicate};
+ghost use Rattle.std.specs.Prelude.{◌≡◌, IfOk, replicate, vec_len};
 
 use super::*;
 
@@ -24,6 +24,23 @@ pub const FIRST_OF_THREE: Config = Config {
 
 /// What the second of three nodes, which knows nothing, tells the first.
 pub const EMPTY: &[u8] = b"FPG1\x01\0\0\0\0\0\0\0\0\0\0\0\0\0\0\0\0\0\0\0\0\0\0\0\0\0\0\0";
+
+/// A registry with one seat and no calls.
+pub(super) fn started<L: Label, R: Wait>(
+    rt: &R,
+    alloc: Global,
+    blank: Blank,
+    config: Config,
+) -> Result<(Registry<L>, Seat<L>), Fail>
+    requires name { blank.name ≡ L.name }
+    requires parts { (blank.parts ≡ L.parts) × (L.parts ≡ 1) }
+    requires config { config ≡ L.config }
+    requires seed { replicate 32 0 ≡ L.seed }
+{
+    let (registry, mut seats) = Registry::<L>::start(rt, alloc, blank, config, [0; 32], 1)?;
+    let seat = seats.pop().ok_or("a seat")?;
+    Ok((registry, seat))
+}
 
 fn load<L: Label, R: Wait>(
     rt: &R,
@@ -49,8 +66,25 @@ pub(super) fn opened<L: Label, R: Wait>(
     requires config { config ≡ L.config }
     requires seed { replicate 32 0 ≡ L.seed }
 {
-    let (registry, mut seats) = Registry::<L>::start(rt, alloc, blank, config, [0; 32], 1)?;
-    let mut seat = seats.pop().ok_or("a seat")?;
+    let (registry, mut seat) = started::<L, R>(rt, alloc, blank, config)?;
     load(rt, alloc, &registry, &mut seat, points)?;
     Ok((registry, seat))
+}
+
+/// The points of the node of a registry.
+pub(super) fn list<L: Label, R: Wait>(
+    rt: &R,
+    alloc: Global,
+    registry: &Registry<L>,
+) -> Result<String, AllocError> {
+    registry.with(rt, |node| node.list(alloc))
+}
+
+/// The only seat of a registry, in a list.
+pub(super) fn one_seat<L: Label>(alloc: Global, seat: Seat<L>) -> Result<Vec<Seat<L>>, AllocError>
+    ensures { IfOk result (λ seats. vec_len seats ≡ 1) }
+{
+    let mut seats = Vec::with_capacity(alloc, 1)?;
+    seats.push_reserved(seat);
+    Ok(seats)
 }
