@@ -1,4 +1,4 @@
-use Rattle.std.proofs.Common.{◌==◌, ◌≡◌, ◌+◌, length, rules, tests, ap, sym, ◌∙◌}
+use Rattle.std.proofs.Common.{◌==◌, ◌+◌, length, rules, tests, ap, sym, ◌∙◌}
 use Rattle.std.proofs.lemmas.List.{length_push}
 use Rattle.std.proofs.lemmas.Iterator.Consumers.{YieldsList-turn, YieldsList-end}
 use Rattle.std.proofs.lemmas.Iterator.Splits.{YieldsList-from_slice_split}

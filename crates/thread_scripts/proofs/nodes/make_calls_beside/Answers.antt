@@ -1,4 +1,4 @@
-use Rattle.std.proofs.Common.{◌≡◌, ℕ, None, rules}
+use Rattle.std.proofs.Common.{◌≡◌, None, rules}
 use Rattle.thread_scripts.proofs.NodeLists.{of_both, of_workers}
 use Rattle.thread_scripts.proofs.nodes.make_calls_beside.Goals as goal
 

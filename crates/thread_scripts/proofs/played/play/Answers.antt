@@ -1,5 +1,4 @@
 use Rattle.std.proofs.Common.{subst}
-use Rattle.std.specs.Prelude.{IfOk}
 use Rattle.thread_plans.specs.Plans.{plan_value}
 use Rattle.thread_scripts.specs.Plays.{AreListsWaiting}
 use Rattle.thread_scripts.proofs.Numbered.{IfOk-map}
