@@ -23,7 +23,6 @@ mod registry;
 mod requests;
 mod resumed;
 mod rounds;
-mod served;
 mod spreads;
 mod stage;
 mod workers;
