@@ -24,7 +24,7 @@ loop-place-preserved g c =
     let here : slice_index_or waits place wait ≡ wait =
     subst (λ ws. slice_index_or ws place wait ≡ wait) same (sym c.wait-item.is) in
     let more : (lines : List ℕ) → IsWaited config seed receipts wait lines → c.if-wait-node.vain.items ≡ vain ++ lines
-        → AreWaited config seed receipts (take (place + 1) waits) c.if-wait-node.vain.items =
+    → AreWaited config seed receipts (take (place + 1) waits) c.if-wait-node.vain.items =
     λ lines this then. waited_more config seed receipts waits place wait vain lines c.if-wait-node.vain.items below here
     c.loop-place.invariant this then in
     let unchanged : c.if-wait-node.vain ≡ c.loop-place.vain → c.if-wait-node.vain.items ≡ vain ++ [] =
@@ -33,15 +33,15 @@ loop-place-preserved g c =
       | then-wait-node+then-not-is_satisfied+in_ok-push w ↦
           let own : (wait.node == config.node) ≡ true = grind (arith, nat_tests, w.if-wait-node.true, c.requires) in
           more (wait.line ∷ []) (in_vain config seed receipts wait own
-              (subst (λ b. IsEnded config seed receipts wait b) w.if-not-is_satisfied.true w.is_satisfied.ensures))
-              (ap (λ v. v.items) w.vain-is ∙ w.in_ok-push.ensures.items)
+          (subst (λ b. IsEnded config seed receipts wait b) w.if-not-is_satisfied.true w.is_satisfied.ensures))
+          (ap (λ v. v.items) w.vain-is ∙ w.in_ok-push.ensures.items)
       | else-wait-node w ↦
           elim w.else-wait-node.branch [
             | else-wait-node-via-then-wait-node+else-not-is_satisfied w' ↦
                 let own : (wait.node == config.node) ≡ true = grind (arith, nat_tests, w'.if-wait-node.true, c.requires) in
                 more [] (not_in_vain config seed receipts wait own
-                    (subst (λ b. IsEnded config seed receipts wait b) w'.if-not-is_satisfied.false w'.is_satisfied.ensures))
-                    (unchanged w.vain-is)
+                (subst (λ b. IsEnded config seed receipts wait b) w'.if-not-is_satisfied.false w'.is_satisfied.ensures))
+                (unchanged w.vain-is)
             | else-wait-node-via-else-wait-node w' ↦
                 let other : (wait.node == config.node) ≡ false =
                 grind (arith, nat_tests, w'.if-wait-node.false, c.requires) in
