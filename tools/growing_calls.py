@@ -23,7 +23,7 @@ REPLIES = re.compile(r"^(HttpReply|RoomReply|Wanted)$")
 
 
 def can_find_no_memory(head, trait=""):
-    """Whether a call with this head can be refused memory. A method of a trait of ours is given it."""
+    """Whether an allocation can fail in a call with this signature. A method of our own traits gets its allocator as `alloc`."""
     result = head.rpartition(" -> ")[2]
     is_given = bool(re.search(r"\balloc: Global", head))
     takes_some = is_given or not trait and "_alloc: " not in head

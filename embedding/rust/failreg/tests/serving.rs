@@ -175,7 +175,7 @@ fn the_status_alone_has_a_tag() {
         let other = get(addr, path, any);
         assert_eq!((status_of(&other), tag_and_body(&other).0), (status, None));
     }
-    // A client without access is told why, whatever its tag.
+    // A client without access gets the reason, whatever its tag.
     let foreign = get(addr, "/status", &format!("Origin: null\r\n{any}"));
     assert_eq!((status_of(&foreign), tag_and_body(&foreign).0), (403, None));
 }
