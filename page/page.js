@@ -85,7 +85,7 @@ function tell(what, answer) {
     const sign = make("span", answer.isDone ? "yes" : "no", answer.isDone ? "✓ " : "✗ ");
     const text = make("code", answer.isDone ? "" : "no", plain(clip(answer.text, 300)));
     const line = make("li", "", make("time", "", new Date().toTimeString().slice(0, 8)), " ", sign,
-        make("code", "", plain(clip(what, 160))), answer.isDone ? " answered " : " was refused: ", text);
+        make("code", "", plain(clip(what, 160))), answer.isDone ? " returned " : " was rejected: ", text);
     const codes = answer.isDone ? [] : answer.text.match(/\b[NAS]\d+(?= )/g) || [];
     const reasons = codes.map(code => BECAUSE[code]).filter(Boolean);
     if (reasons.length) line.append(" (" + reasons.join("; ") + ")");
@@ -99,11 +99,11 @@ const spelled = parts => "/" + parts.map(part => encodeURIComponent(part).replac
 
 // Asks for a change, shows what is answered, and says whether it was done.
 async function change(what, method, parts, body) {
-    let answer = { isDone: false, text: "a browser can't name this point: curl --path-as-is can" };
+    let answer = { isDone: false, text: "browsers can't address this point: use curl --path-as-is" };
     // A browser takes a part . or .. of a path for a folder.
     if (!parts.some(isFolder)) {
         answer = await ask(method, spelled(parts), body).catch(error => (
-            { isDone: false, text: "the node wasn't reached: " + error.message }));
+            { isDone: false, text: "cannot reach the node: " + error.message }));
     }
     tell(what, answer);
     if (answer.isDone) await refresh();
@@ -208,7 +208,7 @@ function row(point, terms) {
     const isSet = point.actions !== null;
     const text = make("code", "", ...(point.actions || "").split("->").map((term, i) => (
         make("span", "", (i ? "->" : "") + plain(term)))));
-    const name = cell("name", make("span", "", point.name), make("span", "unseen", ", setting"), " ",
+    const name = cell("name", make("span", "", point.name), make("span", "unseen", ", version"), " ",
         make("span", "stamp", point.stamp));
     const act = cell("act", button("Edit", "edit", point.name), " ");
     if (isSet) act.append(button("Remove", "remove", point.name));
@@ -292,7 +292,7 @@ async function refresh() {
         const texts = answers.map(answer => answer.text);
         failures = 0;
         find("unlock").hidden = true;
-        say(isHeld() ? "held" : "up to date", false);
+        say(isHeld() ? "paused" : "up to date", false);
         if (texts.join() === drawn) return;
         drawn = texts.join();
         [report, { node }] = texts.map(text => JSON.parse(text));
@@ -300,7 +300,7 @@ async function refresh() {
     } catch (error) {
         if (mine !== latest) return;
         failures++;
-        say("the node doesn't answer (" + clip(plain(error.message), 120) + "); below is what it said last", true);
+        say("the node doesn't respond (" + clip(plain(error.message), 120) + "); showing its last report", true);
     }
 }
 
@@ -362,7 +362,7 @@ find("removed").addEventListener("change", draw);
 find("lock").addEventListener("click", () => { keep(null); refresh(); });
 find("hold").addEventListener("click", () => {
     find("hold").setAttribute("aria-pressed", String(!isHeld()));
-    if (isHeld()) say("held", false); else refresh();
+    if (isHeld()) say("paused", false); else refresh();
 });
 find("rows").addEventListener("click", event => {
     const { edit: edited, remove } = (event.target.closest("button") || { dataset: {} }).dataset;

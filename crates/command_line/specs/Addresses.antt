@@ -33,6 +33,6 @@ IsPortHere port address =
 -- what is printed of a fault
 abbrev pub address_fault_text : AddressFault → List ℕ
 address_fault_text NoAddress =
-    codes "no address with a port, as 10.0.0.2:7071 or [fd00::2]:7071, and names aren't looked up"
+    codes "expected an IP address and port, such as 10.0.0.2:7071 or [fd00::2]:7071; host names aren't resolved"
 address_fault_text BadScope =
-    codes "a scope is a number, as in [fe80::2%3]:7071: `ip link` shows those of this machine"
+    codes "expected a scope number, such as [fe80::2%3]:7071; `ip link` shows those of this machine"

@@ -34,9 +34,9 @@ IsGuarded options = options.key_file ≡ None → AreHere options.listen options
 -- what is printed of it
 abbrev pub unguarded_text : Unguarded → List ℕ
 unguarded_text (Listening address) =
-    socket_text address ++ codes " can be reached by other machines: give --key-file too"
+    socket_text address ++ codes " is not a loopback address: --key-file is required"
 unguarded_text (Told node address) =
-    decimal node ++ (codes ":" ++ (socket_text address ++ codes " is on another machine: give --key-file too"))
+    decimal node ++ (codes ":" ++ (socket_text address ++ codes " is not a loopback address: --key-file is required"))
 
 -- a node that is to be served is guarded
 abbrev pub IsGuardedInvocation : Invocation → Type 0

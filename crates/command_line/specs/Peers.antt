@@ -88,7 +88,7 @@ pub record IsFirstBad (nodes : ℕ) (words : List (List ℕ)) (word : List ℕ) 
 
 -- what is printed of a fault
 abbrev pub peer_fault_text : PeerFault → List ℕ
-peer_fault_text NoColon = codes "no `:` between a node and its port"
+peer_fault_text NoColon = codes "expected `:` between the node and its port"
 peer_fault_text BadNode = codes "the node isn't a number of at most 255"
 peer_fault_text BadPort = codes "the port isn't a number of at most 65535"
 peer_fault_text (BadAddress fault) = address_fault_text fault

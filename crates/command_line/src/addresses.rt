@@ -23,9 +23,9 @@ impl AddressFault {
     {
         match self {
             AddressFault::NoAddress =>
-                "no address with a port, as 10.0.0.2:7071 or [fd00::2]:7071, and names aren't looked up",
+                "expected an IP address and port, such as 10.0.0.2:7071 or [fd00::2]:7071; host names aren't resolved",
             AddressFault::BadScope =>
-                "a scope is a number, as in [fe80::2%3]:7071: `ip link` shows those of this machine",
+                "expected a scope number, such as [fe80::2%3]:7071; `ip link` shows those of this machine",
         }
     }
 }

@@ -28,12 +28,12 @@ impl fmt::Display for Unguarded {
         match self {
             Unguarded::Listening(address) => write!(
                 f,
-                "{address} can be reached by other machines: give --key-file too"
+                "{address} is not a loopback address: --key-file is required"
             ),
             Unguarded::Told { node, address } => {
                 write!(
                     f,
-                    "{node}:{address} is on another machine: give --key-file too"
+                    "{node}:{address} is not a loopback address: --key-file is required"
                 )
             }
         }

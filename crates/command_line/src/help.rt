@@ -161,10 +161,10 @@ The script is read completely before anything runs. Its lines, in this order:
                                       spread <node> <name>: the node gives each
                                       other node an equal part of its rights to
                                       each counted term
-  gossip <rounds>                     at most once: next to the workers, each
-                                      node does so many rounds, in which it
+  gossip <rounds>                     at most once: while the workers run, each
+                                      node does this many rounds, in which it
                                       sends every other node what it knows and
-                                      takes in what arrived
+                                      processes what arrived
   worker <node>                       the lines up to the next `worker` are the
                                       calls of one worker of the node, made in
                                       their order in a thread of its own:
@@ -173,8 +173,8 @@ The script is read completely before anything runs. Its lines, in this order:
     load <entries>                    sets the points of its entries
     shift <name> <term> <to> <amount> transfers rights to node <to>
     grant <name> <term> <amount>      adds rights beyond the count
-    pass <name> <times>               evaluates the point so often, at most
-                                      65535 times
+    pass <name> <times>               evaluates the point <times> times, at most
+                                      65535
 There may be any number of `start` lines, and up to 250 workers a node. All
 workers run at the same time; those of one node take turns. Without `gossip`
 nodes learn nothing from each other. Fields are separated by exactly one space.
@@ -182,16 +182,16 @@ Empty lines and lines that start with `#` are skipped.
 
 Output: `workers` and their number; `calls` and the number of accepted calls,
 including those of `start` lines and gossip; `audit yes` if some order of all
-calls explains what each thread was told, else `audit no` and why. After a yes,
-one `budget` line for each counted term has its executions on all nodes, which
-are never more than its count plus grants. A rejected call changes nothing and
-isn't counted. A thread that can't start makes no calls.
+calls explains every response, else `audit no` and why. After `audit yes`, one
+`budget` line for each counted term has its executions on all nodes, which are
+never more than its count plus grants. A rejected call changes nothing and isn't
+counted. A thread that can't start makes no calls.
 
 Standard error says what went wrong, at most 20 lines of a kind: for each line
-whose call a node rejects whatever it knows, why; for each node and each worker
-how many calls weren't accepted; how many calls of workers were rejected with
-each code; how many evaluations met a point that isn't set; and that the audit
-says no. Transfers of a spread aren't looked at. --quiet turns that off.
+whose call a node rejects in every state, why; for each node and each worker how
+many calls weren't accepted; how many calls of workers were rejected with each
+code; how many evaluations met a point that isn't set; and that the audit says
+no. Transfers of a spread aren't checked. --quiet turns that off.
 
 Exit status: 0 the script was run, also if calls were rejected or the audit says
 no; 1 it can't be read, has more than 16777216 bytes, can't be answered, memory
@@ -226,10 +226,10 @@ pub const AUDIT_SHORT: &str = "`failreg audit --help` says what is printed, and 
 pub const AUDIT: &str = "\
 Pass a recording (of `failreg threads --record` or of a Rust program), or the
 journals of all nodes of a run, in any order, also those of nodes that did
-nothing. Output: `audit yes` if some order of all calls explains what each
-caller was told, and one `budget` line for each counted term; else `audit no`
-and why. The verdict is recomputed from the entries. The format is described in
-docs/reference/recording-format.md, and what a yes leaves open in
+nothing. Output: `audit yes` if some order of all calls explains every response,
+and one `budget` line for each counted term; else `audit no` and why. The
+verdict is recomputed from the entries. The format is described in
+docs/reference/recording-format.md, and what `audit yes` doesn't show in
 docs/explanation/what-an-audit-shows.md.
 
 For journals, a line `cut node=1` says that the last line of that node's journal
@@ -261,13 +261,13 @@ pub const PICTURE: &str = "\
 Pass a recording or the journals of all nodes, as to `failreg audit`. The output
 is an SVG without scripts: a lane for each node, its calls from left to right in
 columns, and each message as an arrow from the call that sent it to the call
-that took it in. A call stands as far left as the calls that it depends on
-allow, so no arrow points left. Hover over a call to see its request. With more than 270
-columns several are drawn as one, with bars for their calls. The heading has the
-verdict of `failreg audit`; a call that waits for a message that was never sent
-is marked, and so is the first response that doesn't replay. Below, charts show
-the first six counted terms: rights spent, held by each node, and in transit
-(docs/explanation/what-an-audit-shows.md).
+that received it. A call is drawn as far left as the calls that it depends on
+allow, so no arrow points left. Hover over a call to see its request. With more
+than 270 columns several are drawn as one, with bars for their calls. The
+heading has the verdict of `failreg audit`; a call that waits for a message that
+was never sent is marked, and so is the first response that doesn't replay.
+Below, charts show the first six counted terms: rights spent, held by each node,
+and in transit (docs/explanation/what-an-audit-shows.md).
 
 With --text the output is text, one line for each column, without charts.
 

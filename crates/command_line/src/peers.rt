@@ -40,7 +40,7 @@ impl fmt::Display for PeerFault {
 
     fn fmt<W: fmt::Write>(&self, f: &mut fmt::Formatter<W>) -> fmt::Result {
         let text = match *self {
-            PeerFault::NoColon => "no `:` between a node and its port",
+            PeerFault::NoColon => "expected `:` between the node and its port",
             PeerFault::BadNode => "the node isn't a number of at most 255",
             PeerFault::BadPort => "the port isn't a number of at most 65535",
             PeerFault::BadAddress(fault) => return f.write_str(fault.text()),

@@ -152,7 +152,7 @@ pub struct PartOptions<'a> {
 fn whole_command<'a>(alloc: Global, extent: Extent) -> Result<Command<'a>, AllocError> {
     let mut command = Command::new(alloc, "failreg")
         .version(VERSION)
-        .about("Failpoints of a cluster, with shared budgets")
+        .about("Failpoints with cluster-wide counts")
         .after_help(help::EXAMPLE)
         .subcommand_required(true);
     for subcommand in SUBCOMMANDS {
@@ -207,7 +207,7 @@ fn rights_of(
         return Ok(Rights::Stay);
     }
     if rounds == 0 || peers.is_empty() {
-        return Err(bad_value_of_serve(alloc, "--share is given with --rounds <k> and a peer")?);
+        return Err(bad_value_of_serve(alloc, "--share requires --rounds <k> and a peer")?);
     }
     Ok(Rights::FollowDemand)
 }
@@ -218,7 +218,7 @@ fn start_of(alloc: Global, matches: &ArgMatches<'_>, peers: &[NamedPeer]) -> Res
         return Ok(Start::AtOnce);
     }
     if peers.is_empty() {
-        return Err(bad_value_of_serve(alloc, "--hear-first is given with a peer")?);
+        return Err(bad_value_of_serve(alloc, "--hear-first requires a peer")?);
     }
     Ok(Start::OthersHeard)
 }
@@ -284,7 +284,7 @@ fn part_options<'a>(
             is_synced,
         })),
         None if run.is_some() || is_synced => {
-            Err(bad_value_of_serve(alloc, "--run and --sync are given with --record <file>")?)
+            Err(bad_value_of_serve(alloc, "--run and --sync require --record <file>")?)
         }
         None => Ok(None),
     }

@@ -16,7 +16,7 @@ is_unknown table asked = length (asked_text table asked) == 0
 -- what was met, as it is shown, and which codes there are
 unfoldable pub no_code_text : List ℕ → List ℕ → List ℕ
 no_code_text shown every =
-    output_line (codes "error: no code of a refusal in " ++ shown) ++ output_line (codes "codes:" ++ every)
+    output_line (codes "error: no error code in " ++ shown) ++ output_line (codes "codes:" ++ every)
 
 -- what is said of a text that nothing explains
 abbrev pub unknown_text : List ℕ → List ℕ → List ℕ

@@ -23,14 +23,15 @@ fn wrong_with(fault: ActionFault) -> &'static str {
         ActionFault::TooLong => "has more than 1024 bytes",
         ActionFault::TooManyTerms => "has more than 16 terms",
         ActionFault::Unclosed { .. } => "has no `)` at its end",
-        ActionFault::BadPercent { .. } => "has no chance of at most 100%, as 50% or 0.5%",
-        ActionFault::BadCount { .. } => "has no count below 2^64, as 5*",
+        ActionFault::BadPercent { .. } =>
+            "needs a chance from 0 to 100, with up to 4 decimals, such as 50% or 0.5%",
+        ActionFault::BadCount { .. } => "needs a whole number below 2^64 as its count, such as 5*",
         ActionFault::NoTask { .. } | ActionFault::UnknownTask { .. } =>
-            "is no task: off, return, sleep, panic, print, pause, yield, delay",
+            "has no valid action: expected off, return, sleep, panic, print, pause, yield or delay",
         ActionFault::NeedsTime { .. } | ActionFault::BadTime { .. } =>
-            "has no milliseconds, as sleep(100)",
-        ActionFault::BadByte { .. } => "has a control byte or a `;`",
-        ActionFault::OutOfMemory => "wasn't read: memory was refused",
+            "needs a whole number of milliseconds, such as sleep(100)",
+        ActionFault::BadByte { .. } => "contains a control character or a `;`",
+        ActionFault::OutOfMemory => "can't be read: out of memory",
     }
 }
 
@@ -76,7 +77,7 @@ fn unread(alloc: Global, path: &str) -> Result<String, AllocError> {
 fn bad_at(alloc: Global, path: &str, line: u64) -> Result<String, AllocError> {
     let shown = quoted(alloc, path)?;
     format!(in alloc;
-        "{shown}: line {line} is none of a part: give the parts of one run, as they were written"
+        "{shown}: line {line} is not valid in a journal: pass the journals of one run, unchanged"
     )
 }
 
@@ -99,7 +100,7 @@ fn of_other_drill(alloc: Global, paths: &[&str], file: u64) -> Result<String, Al
     let first = shown_at(alloc, paths, 0)?;
     let other = shown_at(alloc, paths, file.saturating_sub(1) as usize)?;
     format!(in alloc;
-        "{other} has another run or another number of nodes than {first}: give parts of one run"
+        "{other} has another run ID or number of nodes than {first}: pass the journals of one run"
     )
 }
 
@@ -108,10 +109,12 @@ fn advice_on_join(alloc: Global, paths: &[&str], fault: JoinFault) -> Result<Str
     match fault {
         JoinFault::OtherDrill { file } => of_other_drill(alloc, paths, file),
         JoinFault::SamePart { node } => {
-            format!(in alloc; "two files have a part of node {node}: give one of each node")
+            format!(in alloc;
+                "two files are journals of node {node}: pass one journal of each node"
+            )
         }
         JoinFault::NoPart { node } => {
-            format!(in alloc; "no file has the part of node {node}: give one of each node")
+            format!(in alloc; "no file is a journal of node {node}: pass one journal of each node")
         }
         JoinFault::OutOfMemory => Ok(String::new(alloc)),
     }

@@ -43,7 +43,7 @@ fn no_code(alloc: Global, shown: &str, codes: &str) -> Result<String, AllocError
     ensures { IfOk result (λ said. string_bytes said ≡ no_code_text shown.now codes.now) }
 {
     let mut said = String::new(alloc);
-    said.push_str("error: no code of a refusal in ")?;
+    said.push_str("error: no error code in ")?;
     said.push_str(shown)?;
     said.push_str("\ncodes:")?;
     said.push_str(codes)?;

@@ -71,5 +71,7 @@ pub fn in_the_way<R: Files + AllocGlobal>(
         None => "folder",
     };
     let shown = quoted(rt.alloc(), &path)?;
-    Ok(Some(format!(in rt.alloc(); "{shown} is there: another {other}, or --force")?))
+    Ok(Some(format!(in rt.alloc();
+        "{shown} already exists: choose another {other} or pass --force"
+    )?))
 }

@@ -120,7 +120,8 @@ rights_text counted granted = decimal counted ++ codes " counted + " ++ decimal 
 
 unfoldable pub places_text : ℕ → ℕ → ℕ → List ℕ
 places_text spent held way =
-    decimal spent ++ codes " spent + " ++ decimal held ++ codes " held + " ++ decimal way ++ codes " on the way</text>\n"
+    decimal spent ++ codes " spent + " ++ decimal held ++ codes " held + " ++ decimal way
+    ++ codes " in transit</text>\n"
 
 -- what it comes to, as a sum
 unfoldable pub sum_line : ℕ → ℕ → ℕ → ℕ → ℕ → ℕ → List ℕ

@@ -238,7 +238,7 @@ fn push_rights(out: &mut String, counted: u64, granted: u64) -> Result<(), Alloc
 fn push_places(out: &mut String, spent: u64, held: u64, way: u64) -> Result<(), AllocError>
     ensures { Adds result out.old out.new (places_text spent held way) }
 {
-    writeln!(out, "{spent} spent + {held} held + {way} on the way</text>")
+    writeln!(out, "{spent} spent + {held} held + {way} in transit</text>")
 }
 
 // What it comes to, as a sum.

@@ -89,10 +89,10 @@ pub const LEGEND: &str = "\
 <use href='#granted' x='189' y='32'/><text class='soft' x='202' y='36'>granted</text>
 <path class='news' d='M265 28L283 34'/><text class='soft' x='284' y='36'>message with news</text>
 <path class='same' d='M411 28L425 34'/><text class='soft' x='430' y='36'>nothing new</text>
-<use href='#stuck' x='525' y='32'/><text class='soft' x='538' y='36'>waits for ever</text>
-<text class='soft' x='12' y='52'>Left to right is an order that the messages allow, not time: a call stands as far left as the calls before it let it. Dark bars: passes that ran a term.</text>
-<path class='spent' d='M12 60h12v9h-12z'/><text class='soft' x='30' y='68'>rights that were spent</text>
-<path class='own0' d='M160 60h12v9h-12z'/><text class='soft' x='178' y='68'>that the node of this colour holds</text>
-<path class='way0' d='M372 60h12v9h-12z'/><text class='soft' x='390' y='68'>that are on their way to it</text>
+<use href='#stuck' x='525' y='32'/><text class='soft' x='538' y='36'>waits forever</text>
+<text class='soft' x='12' y='52'>Left to right is an order that the messages allow, not time: a call is drawn as far left as its dependencies allow. Dark bars: evaluations that ran a term.</text>
+<path class='spent' d='M12 60h12v9h-12z'/><text class='soft' x='30' y='68'>rights spent</text>
+<path class='own0' d='M160 60h12v9h-12z'/><text class='soft' x='178' y='68'>held by the node of this color</text>
+<path class='way0' d='M372 60h12v9h-12z'/><text class='soft' x='390' y='68'>in transit to it</text>
 <path class='count' d='M542 65h18'/><text class='soft' x='566' y='68'>the count; what is above was granted</text>
 ";

@@ -74,7 +74,7 @@ pub fn finish_unreadable<R: Eprint>(rt: &R, error: io::Error) -> anyhow::Result<
     if error.kind() != ErrorKind::InvalidData {
         return Err(error.into());
     }
-    eprintln!(rt; "error: a word of the command line isn't UTF-8")?;
+    eprintln!(rt; "error: an argument isn't valid UTF-8")?;
     Ok(ExitCode::from(2))
 }
 

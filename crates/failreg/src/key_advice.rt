@@ -7,9 +7,9 @@ use std::alloc::{AllocError, Global};
 // What was met.
 fn met(alloc: Global, fault: &KeyFault) -> Result<String, AllocError> {
     match fault {
-        KeyFault::CantRead(error) => format!(in alloc; "it can't be read ({error})"),
+        KeyFault::CantRead(error) => format!(in alloc; "cannot read ({error})"),
         KeyFault::OpenToOthers(mode) => {
-            format!(in alloc; "others than its owner may use it, its mode is {mode:o}")
+            format!(in alloc; "other users can access it: its mode is {mode:o}")
         }
         KeyFault::TooShort(bytes) => format!(in alloc; "it has {bytes} bytes"),
         KeyFault::TooLong => format!(in alloc; "it has more than {MOST_KEY} bytes"),
@@ -19,7 +19,9 @@ fn met(alloc: Global, fault: &KeyFault) -> Result<String, AllocError> {
 fn advice_on_fault(alloc: Global, path: &str, fault: &KeyFault) -> Result<String, AllocError> {
     let shown = quoted(alloc, path)?;
     let met = met(alloc, fault)?;
-    format!(in alloc; "key {shown}: {met}: make it by (umask 077; head -c 32 /dev/urandom >FILE)")
+    format!(in alloc;
+        "key {shown}: {met}: create one with (umask 077; head -c 32 /dev/urandom >FILE)"
+    )
 }
 
 /// What of the file of a key was met, and what to do. Without memory for it there is none.

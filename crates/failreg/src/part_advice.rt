@@ -25,10 +25,10 @@ fn met(alloc: Global, fault: &OpenFault) -> Result<String, AllocError> {
         OpenFault::NotBegun(error) => { format!(in alloc; "cannot be started ({error})") }
         OpenFault::Lines(PartFault::ReadFailed) => String::from_str(alloc, "cannot read"),
         OpenFault::Lines(PartFault::NoCall { line }) => {
-            format!(in alloc; "line {line} is no line of a call")
+            format!(in alloc; "line {line} is not a journal entry")
         }
         OpenFault::Lines(PartFault::TooLong { line }) => {
-            format!(in alloc; "line {line} is longer than a line of a call")
+            format!(in alloc; "line {line} is longer than any journal entry")
         }
         OpenFault::Lines(PartFault::Differs { line }) => {
             format!(in alloc; "line {line} does not replay")

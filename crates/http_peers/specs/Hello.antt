@@ -30,7 +30,7 @@ hello_reply cluster method body =
     if not (bytes_eq method (codes "POST")) then text_reply 405 (codes "bad method")
     else (if nat_lt max_message (length body) then text_reply 413 (codes "too long")
     else (if is_some (asker_in cluster body) then text_reply 200 (codes "telling")
-    else text_reply 400 (codes "no other node of this cluster: send the number of the node that asks to be told")))
+    else text_reply 400 (codes "expected the number of the requesting node: another node of this cluster")))
 
 -- a request at that path is answered so, and any other one by the handler
 abbrev pub AnswersOrGreets : Cluster → (List ℕ → List ℕ → List ℕ → ReplyValue → Type 0) → List ℕ → List ℕ → List ℕ →

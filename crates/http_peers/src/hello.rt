@@ -89,7 +89,7 @@ impl Peers {
             return HttpReply::text(
                 alloc,
                 400,
-                "no other node of this cluster: send the number of the node that asks to be told",
+                "expected the number of the requesting node: another node of this cluster",
             );
         };
         self.askers.note(rt, node);

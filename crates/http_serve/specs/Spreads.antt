@@ -1,5 +1,5 @@
 -- What a served node answers to a request, which may be one to spread the rights of a point.
-use Rattle.std.specs.Prelude.{◌==◌, ℕ, Bool, false, List, Some, None, if◌then◌else◌, is_some, MatchOption}
+use Rattle.std.specs.Prelude.{◌==◌, ℕ, Bool, List, Some, None, if◌then◌else◌, is_some, MatchOption}
 use Rattle.node_steps.specs.declared.config.Config.{Config}
 use Rattle.node_registry.specs.Batches.{IsBatch}
 use Rattle.http_paths.specs.Paths.{target_of}

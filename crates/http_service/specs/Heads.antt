@@ -90,11 +90,12 @@ refusal_of credentials need port fields =
 -- what such a head is answered
 abbrev pub refusal_reply : Refusal → ReplyValue
 refusal_reply NoKey =
-    text_reply 401 (codes "no key: send Authorization: Bearer and the key in hex")
-refusal_reply ForeignHost = text_reply 403 (codes "another machine's Host: ask for localhost, 127.0.0.1 or [::1]")
+    text_reply 401 (codes "missing or wrong key: send Authorization: Bearer and the key in hex")
+refusal_reply ForeignHost =
+    text_reply 403 (codes "the Host header names another machine: use localhost, 127.0.0.1 or [::1]")
 refusal_reply ForeignOrigin =
-    text_reply 403 (codes "a page of another Origin: no browser may ask for it, send no Origin")
-refusal_reply OtherCoding = text_reply 501 (codes "unknown coding: send Content-Length, or chunks alone")
+    text_reply 403 (codes "the Origin header names another site: send no Origin header")
+refusal_reply OtherCoding = text_reply 501 (codes "unsupported Transfer-Encoding: send Content-Length or only chunked")
 
 -- a text, and where a key is missing, what is to be sent
 abbrev pub refusal_labels : Refusal → Labels

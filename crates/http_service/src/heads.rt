@@ -43,22 +43,22 @@ impl Refusal {
             Refusal::NoKey => HttpReply::text(
                 alloc,
                 401,
-                "no key: send Authorization: Bearer and the key in hex",
+                "missing or wrong key: send Authorization: Bearer and the key in hex",
             ),
             Refusal::ForeignHost => HttpReply::text(
                 alloc,
                 403,
-                "another machine's Host: ask for localhost, 127.0.0.1 or [::1]",
+                "the Host header names another machine: use localhost, 127.0.0.1 or [::1]",
             ),
             Refusal::ForeignOrigin => HttpReply::text(
                 alloc,
                 403,
-                "a page of another Origin: no browser may ask for it, send no Origin",
+                "the Origin header names another site: send no Origin header",
             ),
             Refusal::OtherCoding => HttpReply::text(
                 alloc,
                 501,
-                "unknown coding: send Content-Length, or chunks alone",
+                "unsupported Transfer-Encoding: send Content-Length or only chunked",
             ),
         }
     }

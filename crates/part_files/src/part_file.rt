@@ -130,7 +130,7 @@ fn head_of(alloc: Global, config: Config, run: &str) -> Result<PartHead, AllocEr
 // What another first line says that the node's own doesn't.
 fn differences(alloc: Global, met: &[u8], own: &PartHead) -> Result<String, AllocError> {
     let Some(met) = part_head_in(alloc, met.strip_suffix(b"\n").unwrap_or(met))? else {
-        return String::from_str(alloc, "it is no part of a node");
+        return String::from_str(alloc, "not a journal of a node");
     };
     let mut told = String::new(alloc);
     let numbers = [
@@ -150,9 +150,9 @@ fn differences(alloc: Global, met: &[u8], own: &PartHead) -> Result<String, Allo
         told.push_str(&format!(in alloc; "{comma}run is {there} there and {here} here")?)?;
     }
     if told.is_empty() {
-        return String::from_str(alloc, "its first line isn't as a node writes it");
+        return String::from_str(alloc, "its first line isn't in canonical form");
     }
-    format!(in alloc; "it isn't this node's: {told}")
+    format!(in alloc; "not this node's: {told}")
 }
 
 // What a first line that isn't this node's says that the node's own doesn't, once more of it is read.

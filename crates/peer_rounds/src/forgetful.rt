@@ -118,7 +118,7 @@ impl Said {
 // Prints that a node lost its state, and what to do.
 fn say_forgotten<R: Eprint>(rt: &R, node: u8, fault: Forgetting) -> io::Result<()> {
     eprintln!(rt;
-        "failreg: node {node} lost its state (it answers {fault}): it restarted without its journal, or \
+        "failreg: node {node} lost its state (it returned {fault}): it restarted without its journal, or \
          a second process runs under its number. End it, and restart it with its journal, or under a \
          number that was never used."
     )

@@ -15,7 +15,7 @@ N1 TraceFull
   Affects: `set`, `remove`, `load`, `pass`, `shift`, `grant`
   Cause: the name isn't 1 to 128 bytes of ASCII letters, digits, `_`, `-`,
     `.` and `:`
-  Fix: use only these; in a FAILPOINTS string no space may stand before the
+  Fix: use only these; in a FAILPOINTS string, leave no space before the
     `=`
 |N3 BadActions
   Node error
@@ -82,9 +82,9 @@ N1 TraceFull
 |N16 BadMessage
   Node error
   Affects: `deliver`
-  Cause: the bytes are no message of this cluster; the message's own error
+  Cause: the bytes aren't a message of this cluster; the message's own error
     follows
-  Fix: see the code that follows, of W
+  Fix: see the W code that follows
 |N17 NotForMe
   Node error
   Affects: `deliver`
@@ -205,7 +205,7 @@ N1 TraceFull
   Action string error
   Cause: the action is missing
   Fix: write one of `off`, `return`, `sleep`, `panic`, `print`, `pause`,
-    `yield` and `delay`; no `->` stands at the start or the end
+    `yield` and `delay`; don't start or end with `->`
 |A7 UnknownTask term=
   Action string error
   Cause: the action isn't one of `off`, `return`, `sleep`, `panic`, `print`,
@@ -240,14 +240,14 @@ N1 TraceFull
   Fix: write entries as `<name>=<actions>`, separated by `;`
 |S3 BadName entry=
   FAILPOINTS string error
-  Cause: what stands before the first `=` is no name
+  Cause: the text before the first `=` isn't a name
   Fix: use 1 to 128 ASCII letters, digits, `_`, `-`, `.` and `:`, with no
     space before the `=`
 |S4 BadActions entry=
   FAILPOINTS string error
   Cause: the action string after the `=` is wrong; its own error follows,
     with offsets counted from there
-  Fix: see the code that follows, of A
+  Fix: see the A code that follows
 |S5 OutOfMemory
   FAILPOINTS string error
   Cause: an allocation failed
@@ -275,7 +275,7 @@ N1 TraceFull
     never produces this)
 |W6 BadName offset=
   Message error
-  Cause: these bytes are no name
+  Cause: these bytes aren't a name
   Fix: the message is corrupt: request a new one from its sender (failreg
     never produces this)
 |W7 BadBody offset=
@@ -329,10 +329,10 @@ N1 TraceFull
   Fix: check the path and permissions
 |P3 WriteFailed
   Script or recording error
-  Cause: the answers can't be written or flushed, or the recording can't be
-    kept
+  Cause: the output can't be written or flushed, or the recording can't be
+    written
   Written: a prefix of them
-  Fix: check whether the disk is full or the reader has ended; `--record`
+  Fix: check whether the disk is full or the reader has exited; `--record`
     overwrites an existing file only with `--force`
 |P4 OutOfMemory
   Script or recording error
@@ -373,8 +373,8 @@ N1 TraceFull
   Audit error
   Cause: replaying the node's calls gives a different result at this entry
     (counted from 0), the first one of the lowest node
-  Fix: pass the call log that the node kept: this one was edited, or isn't
-    one node's from its start
+  Fix: pass the node's own call log: this one was edited, or isn't one
+    node's from its start
 |X3 Stuck node= index=
   Audit error
   Cause: the recorded calls can't be ordered: this entry delivers a message
@@ -383,8 +383,7 @@ N1 TraceFull
 |X4 ReceiptDiffers
   Audit error
   Cause: a receipt names no entry, or differs from its entry
-  Fix: look at the caller: it was told something else than what the node
-    recorded
+  Fix: check the caller: it got another response than the node recorded
 |X5 ReceiptTwice
   Audit error
   Cause: an entry has two receipts

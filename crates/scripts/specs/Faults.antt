@@ -13,7 +13,8 @@ use Rattle.scripts.specs.Commands.{CommandValue, nodes, event, question, Questio
 
 -- ---- a line that prints `bad line`
 
--- how a line of this question is written, or what only a script that is checked has, or that no line begins so
+-- how a line of this question is written, or what only a script that is checked has, or that no line starts with this
+-- word
 abbrev pub question_form : List ℕ → List ℕ
 question_form word =
     if bytes_eq word (codes "list") then codes "list <node>" else
@@ -21,7 +22,8 @@ question_form word =
     (if bytes_eq word (codes "rights") then codes "rights <node> <name> <term> <of>" else
     (if bytes_eq word (codes "spent") then codes "spent <node> <name> <term>" else
     (if bytes_eq word (codes "hits") then codes "hits <node> <name>" else
-    (if bytes_eq word (codes "expect") then codes "expect <text> wants --check" else codes "no line begins so")))))
+    (if bytes_eq word (codes "expect") then codes "expect <text> needs --check"
+    else codes "no line starts with this word")))))
 
 -- the same of any line
 abbrev pub form_of : List ℕ → List ℕ
@@ -52,7 +54,7 @@ why_bad w line None = Some (wanted_in line)
 why_bad None line (Some (nodes count cap)) = None
 why_bad None line (Some (event e)) = Some (codes "nodes <n> <cap> comes first")
 why_bad None line (Some (question node asked)) = Some (codes "nodes <n> <cap> comes first")
-why_bad (Some w) line (Some (nodes count cap)) = Some (codes "the nodes are made already")
+why_bad (Some w) line (Some (nodes count cap)) = Some (codes "there is already a nodes line")
 why_bad (Some w) line (Some (event e)) = None
 why_bad (Some w) line (Some (question node asked)) = None
 

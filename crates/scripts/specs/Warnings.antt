@@ -40,7 +40,7 @@ bad_sum bad = if nat_lt most_named bad then output_line (codes "bad lines: " ++ 
 
 abbrev pub unset_sum : ℕ → List ℕ
 unset_sum unset =
-    if unset == 0 then [] else output_line (codes "passes of a point that isn't set: " ++ decimal unset)
+    if unset == 0 then [] else output_line (codes "evaluations of points that aren't set: " ++ decimal unset)
 
 abbrev pub warned_sums : Warned → List ℕ
 warned_sums s = bad_sum s.bad ++ unset_sum s.unset

@@ -37,8 +37,8 @@ fn question_form(word: &str) -> &'static str
         "rights" => "rights <node> <name> <term> <of>",
         "spent" => "spent <node> <name> <term>",
         "hits" => "hits <node> <name>",
-        "expect" => "expect <text> wants --check",
-        _ => "no line begins so",
+        "expect" => "expect <text> needs --check",
+        _ => "no line starts with this word",
     }
 }
 
@@ -88,7 +88,7 @@ pub(crate) fn why_bad(world: &Option<World>, line: &[u8], command: &Option<Comma
         (_, None) => Some(wanted_in(line)),
         (None, Some(Command::Nodes { .. })) => None,
         (None, Some(_)) => Some("nodes <n> <cap> comes first"),
-        (Some(_), Some(Command::Nodes { .. })) => Some("the nodes are made already"),
+        (Some(_), Some(Command::Nodes { .. })) => Some("there is already a nodes line"),
         (Some(_), Some(_)) => None,
     }
 }

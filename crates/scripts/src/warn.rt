@@ -129,7 +129,7 @@ impl Warning {
             return Ok(());
         }
         let unset = self.unset;
-        let sum = format!(in alloc; "passes of a point that isn't set: {unset}\n")?;
+        let sum = format!(in alloc; "evaluations of points that aren't set: {unset}\n")?;
         self.said.extend_from_slice(sum.as_bytes())
     }
 

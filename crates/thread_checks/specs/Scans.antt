@@ -34,17 +34,17 @@ why_await vain s line =
     if s.worked then
     (if is_some (await_in line)
     then (if list_any (λ n. n == s.number) vain
-    then Some (codes "gossip is over, and the node doesn't know the setting") else None)
+    then Some (codes "gossip ended before the node received the configuration") else None)
     else Some (codes "bad line: await <name>[ <stamp>]"))
-    else Some (codes "await stands in a worker")
+    else Some (codes "await is only allowed in a worker")
 
 -- ---- rounds before the workers, and starts behind a spread
 
 abbrev pub why_late : Scan → List ℕ → Option (List ℕ)
 why_late s line =
     if (s.worked || s.rounds) && is_some (first_in line)
-    then Some (codes "gossip <rounds> first comes once, before the workers")
-    else (if s.spread && is_start_call line then Some (codes "start spread comes behind other start lines") else None)
+    then Some (codes "gossip <rounds> first is allowed once, before the workers")
+    else (if s.spread && is_start_call line then Some (codes "no other start line may follow start spread") else None)
 
 abbrev pub why_wrong : List ℕ → Scan → List ℕ → Option (List ℕ)
 why_wrong vain s line = if is_await line then why_await vain s line else why_late s line

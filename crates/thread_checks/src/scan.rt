@@ -32,13 +32,13 @@ fn why_await(vain: &[u32], scan: Scan, line: &[u8]) -> Why
     ensures { option_map (λ why. why.now) result ≡ why_await vain.now (scan_value scan) line.now }
 {
     if !scan.worked {
-        return Some("await stands in a worker");
+        return Some("await is only allowed in a worker");
     }
     if await_in(line).is_none() {
         return Some("bad line: await <name>[ <stamp>]");
     }
     if vain.contains(&scan.number) {
-        Some("gossip is over, and the node doesn't know the setting")
+        Some("gossip ended before the node received the configuration")
     } else {
         None
     }
@@ -49,10 +49,10 @@ fn why_late(scan: Scan, line: &[u8]) -> Why
     ensures { option_map (λ why. why.now) result ≡ why_late (scan_value scan) line.now }
 {
     if (scan.worked || scan.rounds) && first_in(line).is_some() {
-        return Some("gossip <rounds> first comes once, before the workers");
+        return Some("gossip <rounds> first is allowed once, before the workers");
     }
     if scan.spread && is_start_call(line) {
-        Some("start spread comes behind other start lines")
+        Some("no other start line may follow start spread")
     } else {
         None
     }

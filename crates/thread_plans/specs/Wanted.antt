@@ -12,11 +12,12 @@ use Rattle.thread_plans.specs.Plans.{PlanValue, StageValue, empty, sized, starte
 abbrev pub later_words : List ℕ → List ℕ
 later_words text = option_map_or (λ parts. parts.1) (cut_of text) []
 
--- what of a line that only a script that is checked has, or that no line begins so
+-- what of a line that only a script that is checked has, or that no line starts with this word
 abbrev pub checked_form : List ℕ → List ℕ
 checked_form word =
-    if bytes_eq word (codes "await") then codes "await <name>[ <stamp>] wants --check" else
-    (if bytes_eq word (codes "expect") then codes "expect <text> wants --check" else codes "no line begins so")
+    if bytes_eq word (codes "await") then codes "await <name>[ <stamp>] needs --check" else
+    (if bytes_eq word (codes "expect") then codes "expect <text> needs --check"
+    else codes "no line starts with this word")
 
 -- how a call of a worker is written, or what else
 abbrev pub call_form : List ℕ → List ℕ
@@ -37,7 +38,7 @@ start_form word =
     (if bytes_eq word (codes "shift") then codes "start shift <node> <name> <term> <to> <amount>" else
     (if bytes_eq word (codes "grant") then codes "start grant <node> <name> <term> <amount>" else
     (if bytes_eq word (codes "spread") then codes "start spread <node> <name>"
-    else codes "start, and a set, remove, load, shift, grant or spread line")))))
+    else codes "start must be followed by set, remove, load, shift, grant or spread")))))
 
 -- the same of any line, whose second word counts only behind `start`
 abbrev pub line_form : List ℕ → List ℕ → List ℕ
@@ -76,8 +77,8 @@ wanted_of_worker nodes node = if nat_lt node nodes then codes "a node has 250 wo
 
 -- before the first worker
 abbrev pub wanted_of_started : PlanValue → LineValue → List ℕ
-wanted_of_started p (nodes_line count cap) = codes "the nodes are known already"
-wanted_of_started p (seed_line bytes) = codes "the seed is known already"
+wanted_of_started p (nodes_line count cap) = codes "there is already a nodes line"
+wanted_of_started p (seed_line bytes) = codes "there is already a seed line"
 wanted_of_started p (start_line node start) =
     if nat_lt node p.nodes then codes "start lines come before gossip" else no_node
 wanted_of_started p (gossip_line rounds) = codes "there is one gossip line at most"
@@ -86,8 +87,8 @@ wanted_of_started p (calls_line call times) = codes "worker <node> comes before 
 
 -- behind one
 abbrev pub wanted_of_working : PlanValue → LineValue → List ℕ
-wanted_of_working p (nodes_line count cap) = codes "the nodes are known already"
-wanted_of_working p (seed_line bytes) = codes "the seed is known already"
+wanted_of_working p (nodes_line count cap) = codes "there is already a nodes line"
+wanted_of_working p (seed_line bytes) = codes "there is already a seed line"
 wanted_of_working p (start_line node start) = codes "start lines come before the workers"
 wanted_of_working p (gossip_line rounds) = codes "gossip comes before the workers"
 wanted_of_working p (worker_line node) = wanted_of_worker p.nodes node

@@ -26,14 +26,14 @@ fn later_words(text: &str) -> &str
     }
 }
 
-// What of a line that only a script that is checked has, or that no line begins so.
+// What of a line that only a script that is checked has, or that no line starts with this word.
 fn checked_form(word: &str) -> &'static str
     ensures { result.now ≡ checked_form word.now }
 {
     match word {
-        "await" => "await <name>[ <stamp>] wants --check",
-        "expect" => "expect <text> wants --check",
-        _ => "no line begins so",
+        "await" => "await <name>[ <stamp>] needs --check",
+        "expect" => "expect <text> needs --check",
+        _ => "no line starts with this word",
     }
 }
 
@@ -63,7 +63,7 @@ fn start_form(word: &str) -> &'static str
         "shift" => "start shift <node> <name> <term> <to> <amount>",
         "grant" => "start grant <node> <name> <term> <amount>",
         "spread" => "start spread <node> <name>",
-        _ => "start, and a set, remove, load, shift, grant or spread line",
+        _ => "start must be followed by set, remove, load, shift, grant or spread",
     }
 }
 
@@ -136,8 +136,8 @@ fn wanted_of_started(plan: &ThreadPlan<'_>, line: &Line<'_>) -> &'static str
     ensures { result.now ≡ wanted_of_started (plan_value plan.now) (line_value line.now) }
 {
     match line {
-        Line::Nodes { .. } => "the nodes are known already",
-        Line::Seed(_) => "the seed is known already",
+        Line::Nodes { .. } => "there is already a nodes line",
+        Line::Seed(_) => "there is already a seed line",
         Line::Start { node, .. } if *node < plan.size.nodes => "start lines come before gossip",
         Line::Start { .. } => "there is no node of this number",
         Line::Gossip { .. } => "there is one gossip line at most",
@@ -151,8 +151,8 @@ fn wanted_of_working(plan: &ThreadPlan<'_>, line: &Line<'_>) -> &'static str
     ensures { result.now ≡ wanted_of_working (plan_value plan.now) (line_value line.now) }
 {
     match line {
-        Line::Nodes { .. } => "the nodes are known already",
-        Line::Seed(_) => "the seed is known already",
+        Line::Nodes { .. } => "there is already a nodes line",
+        Line::Seed(_) => "there is already a seed line",
         Line::Start { .. } => "start lines come before the workers",
         Line::Gossip { .. } => "gossip comes before the workers",
         Line::Worker { node } => wanted_of_worker(plan.size.nodes, *node),

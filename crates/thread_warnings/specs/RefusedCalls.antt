@@ -23,7 +23,7 @@ first_words text = first_word text ++ space ∷ first_word (rest_of text)
 
 abbrev pub calls_said : List ℕ → ℕ → List ℕ
 calls_said text calls =
-    codes "calls of workers refused as " ++ (first_words text ++ (codes ": " ++ output_line (decimal calls)))
+    codes "calls of workers rejected with " ++ (first_words text ++ (codes ": " ++ output_line (decimal calls)))
 
 -- of so many calls, one of which was refused so
 abbrev pub refused_said : Option NodeFault → ℕ → List ℕ

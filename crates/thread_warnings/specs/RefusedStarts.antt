@@ -37,7 +37,7 @@ start_refused named number fault = if nat_lt named most_named then unfit_said nu
 
 abbrev pub refused_sum : ℕ → List ℕ
 refused_sum named =
-    if nat_lt most_named named then output_line (codes "start lines that are refused: " ++ decimal named) else []
+    if nat_lt most_named named then output_line (codes "rejected start lines: " ++ decimal named) else []
 
 -- of lines with these numbers, the first of which has this place
 abbrev pub refused_from : StartFaults → ℕ → ℕ → List ℕ → List ℕ

@@ -54,7 +54,7 @@ abbrev pub line_counted : Unfit → List ℕ → Unfit
 line_counted u line = record { number = u.number + 1; unfit = u.unfit + count_one (is_some (why_unfit line)) }
 
 abbrev pub unfit_sum : ℕ → List ℕ
-unfit_sum unfit = if nat_lt most_named unfit then output_line (codes "lines that are refused: " ++ decimal unfit) else []
+unfit_sum unfit = if nat_lt most_named unfit then output_line (codes "rejected lines: " ++ decimal unfit) else []
 
 abbrev pub said_from : Unfit → List (List ℕ) → List ℕ
 said_from u [] = unfit_sum u.unfit
@@ -77,4 +77,4 @@ unset_in lists = sum_by (λ list. count_by (λ (r : Receipt). is_unset r.entry.r
 
 abbrev pub unset_sum : ℕ → List ℕ
 unset_sum unset =
-    if unset == 0 then [] else output_line (codes "passes of a point that isn't set: " ++ decimal unset)
+    if unset == 0 then [] else output_line (codes "evaluations of points that aren't set: " ++ decimal unset)

@@ -49,7 +49,7 @@ fn say_calls(alloc: Global, text: &str, calls: usize, said: &mut Vec<u8>) -> Res
 {
     let code = first_word(text);
     let name = first_word(rest_of(text));
-    let text = format!(in alloc; "calls of workers refused as {code} {name}: {calls}\n")?;
+    let text = format!(in alloc; "calls of workers rejected with {code} {name}: {calls}\n")?;
     said.extend_from_slice(text.as_bytes())
 }
 

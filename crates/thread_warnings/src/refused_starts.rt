@@ -67,7 +67,7 @@ fn say_sum(alloc: Global, named: usize, said: &mut Vec<u8>) -> Result<(), AllocE
     if named <= MOST_NAMED as usize {
         return Ok(());
     }
-    let text = format!(in alloc; "start lines that are refused: {named}\n")?;
+    let text = format!(in alloc; "rejected start lines: {named}\n")?;
     said.extend_from_slice(text.as_bytes())
 }
 

@@ -149,7 +149,7 @@ impl Warning {
             return Ok(());
         }
         let unfit = self.unfit;
-        let text = format!(in alloc; "lines that are refused: {unfit}\n")?;
+        let text = format!(in alloc; "rejected lines: {unfit}\n")?;
         self.said.extend_from_slice(text.as_bytes())
     }
 }
@@ -202,6 +202,6 @@ pub(crate) fn say_unset(alloc: Global, unset: u128, said: &mut Vec<u8>) -> Resul
     if unset == 0 {
         return Ok(());
     }
-    let text = format!(in alloc; "passes of a point that isn't set: {unset}\n")?;
+    let text = format!(in alloc; "evaluations of points that aren't set: {unset}\n")?;
     said.extend_from_slice(text.as_bytes())
 }

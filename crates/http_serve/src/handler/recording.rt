@@ -28,12 +28,14 @@ use std::sync::{Arc, Wait};
 use std::time::Clock;
 
 /// What a call is answered that was made and couldn't be recorded.
-const NOT_RECORDED: &str = "the call was made and could not be recorded: see to where the part is \
-    written, and start the node again from it";
+const NOT_RECORDED: &str =
+    "the call was executed but could not be recorded: free disk space or fix \
+    permissions, then restart the node from its journal";
 
 /// What a call is answered that isn't made, since an earlier one couldn't be recorded.
-const RECORDING_FAILED: &str = "no call is made since one could not be recorded: see to where the \
-    part is written, and start the node again from it";
+const RECORDING_FAILED: &str =
+    "rejected because an earlier call could not be recorded: free disk space \
+    or fix permissions, then restart the node from its journal";
 
 // The reply where what was made couldn't be recorded.
 fn not_recorded(alloc: Global) -> HttpReply

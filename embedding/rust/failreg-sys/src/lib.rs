@@ -95,7 +95,7 @@ numbers! { STATUSES: u32;
     "The node has fewer rights." FAILREG_E_TOO_FEW_RIGHTS = 11,
     "The total that was transferred or granted is at its end." FAILREG_E_CELL_FULL = 12,
     "The evaluation takes another number of random draws." FAILREG_E_BAD_WORDS = 14,
-    "The bytes are no message of this cluster." FAILREG_E_BAD_MESSAGE = 16,
+    "The bytes aren't a message of this cluster." FAILREG_E_BAD_MESSAGE = 16,
     "The message is for another node." FAILREG_E_NOT_FOR_ME = 17,
     "The message has newer state of this node than the node." FAILREG_E_OWN_AHEAD = 18,
     "The message acknowledges a version that doesn't exist." FAILREG_E_ACK_AHEAD = 19,

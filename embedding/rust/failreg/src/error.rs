@@ -24,7 +24,7 @@ pub enum ErrorKind {
     TooFewRights,
     /// A number that only grows would exceed its maximum.
     NumberFull,
-    /// The bytes are no message of this cluster.
+    /// The bytes aren't a message of this cluster.
     BadMessage,
     /// The message is for another node.
     WrongReceiver,

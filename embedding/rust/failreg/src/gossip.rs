@@ -165,7 +165,7 @@ impl Pace {
         }
         self.said = Some(Instant::now());
         eprintln!(
-            "failreg: node {node} lost its state (it answers {fault}): it restarted without its journal, or \
+            "failreg: node {node} lost its state (it returned {fault}): it restarted without its journal, or \
              a second process runs under its number. End it, and restart it with its journal, or under a \
              number that was never used."
         );

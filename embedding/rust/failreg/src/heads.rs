@@ -31,16 +31,19 @@ pub(crate) const BAD_LINE: Fault =
     Fault::Reply(400, "bad request line: send it as GET /fail HTTP/1.1");
 const BAD_FIELD: Fault = Fault::Reply(400, "bad field: send each as Name: value, ended by CR LF");
 const BAD_LENGTH: Fault = Fault::Reply(400, "bad Content-Length: send one, of digits alone");
-const NO_KEY: Fault = Fault::Reply(401, "no key: send Authorization: Bearer and the key in hex");
+const NO_KEY: Fault = Fault::Reply(
+    401,
+    "missing or wrong key: send Authorization: Bearer and the key in hex",
+);
 const BAD_HOST: Fault = Fault::Reply(400, "bad Host: send one");
 const BARE_NEWLINE: Fault = Fault::Reply(400, "bad newline: end each line by CR LF");
 const FOREIGN_HOST: Fault = Fault::Reply(
     403,
-    "another machine's Host: ask for localhost, 127.0.0.1 or [::1]",
+    "the Host header names another machine: use localhost, 127.0.0.1 or [::1]",
 );
 const FOREIGN_ORIGIN: Fault = Fault::Reply(
     403,
-    "a page of another Origin: no browser may ask for it, send no Origin",
+    "the Origin header names another site: send no Origin header",
 );
 const BAD_CODING: Fault = Fault::Reply(
     400,
@@ -48,8 +51,10 @@ const BAD_CODING: Fault = Fault::Reply(
 );
 pub(crate) const LONG_TARGET: Fault =
     Fault::Reply(414, "too long a path: a head has 8192 bytes at most");
-const OTHER_CODING: Fault =
-    Fault::Reply(501, "unknown coding: send Content-Length, or chunks alone");
+const OTHER_CODING: Fault = Fault::Reply(
+    501,
+    "unsupported Transfer-Encoding: send Content-Length or only chunked",
+);
 const MANY_FIELDS: Fault = Fault::Reply(431, "too many fields: send at most 100");
 const NO_EXPECTATION: Fault = Fault::Reply(417, "unknown Expect: send 100-continue, or none");
 pub(crate) const LONG_HEAD: Fault = Fault::Reply(431, "too long a head: send at most 8192 bytes");

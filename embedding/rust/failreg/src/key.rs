@@ -28,7 +28,7 @@ impl Key {
         let file = File::open(path).map_err(|error| fault(error.to_string()))?;
         if let Some(mode) = mode_for_others(&file).map_err(|error| fault(error.to_string()))? {
             return Err(fault(format!(
-                "others than its owner may use it, its mode is {mode:04o}"
+                "other users can access it: its mode is {mode:04o}"
             )));
         }
         let mut bytes = Vec::new();
@@ -163,7 +163,7 @@ mod tests {
             if let Err(error) = read {
                 let (kind, text) = (error.kind(), error.to_string());
                 assert_eq!(kind, ErrorKind::BadKey);
-                let told = format!("key {path:?}: others than its owner may use it, its mode is ");
+                let told = format!("key {path:?}: other users can access it: its mode is ");
                 assert!(text.starts_with(&format!("{told}{mode:04o}: ")), "{text}");
             }
         }

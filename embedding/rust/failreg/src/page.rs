@@ -144,7 +144,7 @@ overflow: auto;
 border: 1px solid var(--line);
 border-radius: 5px;
 }
-#log:empty::after { content: "Nothing was asked from here yet."; display: block; padding: 6px 10px; color: var(--soft); }
+#log:empty::after { content: "No requests yet."; display: block; padding: 6px 10px; color: var(--soft); }
 #log li { padding: 4px 10px; border-top: 1px solid var(--line); overflow-wrap: anywhere; }
 #log li:first-child { border: 0; }
 #log time { color: var(--soft); font-size: 13px; }
@@ -173,30 +173,30 @@ td.name { font-weight: 600; }
 <h1>failreg</h1>
 <span id="node"></span>
 <span id="calls"></span>
-<span id="state" role="status">asking the node …</span>
+<span id="state" role="status">loading …</span>
 </header>
 <main>
-<p id="elsewhere" class="note" hidden>The node takes changes from <a id="home"></a> alone.</p>
+<p id="elsewhere" class="note" hidden>Changes are accepted only from <a id="home"></a>.</p>
 <form id="unlock" class="note" hidden>
-<label>The node is served with a key
+<label>The node requires a key
 <input name="key" type="password" required autocomplete="off"></label>
-<button class="main">Use it</button>
-<p class="hint">It is kept for this tab alone.</p>
+<button class="main">Unlock</button>
+<p class="hint">The key is stored for this tab only.</p>
 </form>
 <h2 id="points">Points</h2>
 <div class="tools">
-<label class="wide">Show names or texts with
+<label class="wide">Filter names and actions
 <input id="filter" type="search" autocomplete="off" spellcheck="false"></label>
 <label>Removed points
 <select id="removed"><option value="">hidden<option value="1">shown</select></label>
-<button id="hold" type="button" aria-pressed="false">Hold the table</button>
-<button id="lock" type="button" hidden>Forget the key</button>
+<button id="hold" type="button" aria-pressed="false">Pause updates</button>
+<button id="lock" type="button" hidden>Discard the key</button>
 </div>
 <div id="box" tabindex="0" role="region" aria-labelledby="points">
 <table role="table" aria-labelledby="points">
 <thead id="head" role="rowgroup"><tr role="row">
 <th scope="col" role="columnheader">Point</th>
-<th scope="col" role="columnheader">Action text</th>
+<th scope="col" role="columnheader">Action string</th>
 <th scope="col" role="columnheader">Hits</th>
 <th scope="col" role="columnheader">Budgets: spent, then what each node has left</th>
 <th scope="col" role="columnheader"><span class="unseen">Changes</span></th>
@@ -205,7 +205,7 @@ td.name { font-weight: 600; }
 </table>
 <p id="none" hidden>No point to show.</p>
 </div>
-<h2 id="answers">Answers</h2>
+<h2 id="answers">Responses</h2>
 <ol id="log" tabindex="0" aria-labelledby="answers" aria-live="polite" aria-relevant="additions"></ol>
 <h2 id="changes" tabindex="-1">Changes</h2>
 <datalist id="names"></datalist>
@@ -214,13 +214,13 @@ td.name { font-weight: 600; }
 <legend>Set a point</legend>
 <label>Name <input class="code" name="name" required maxlength="128" list="names" autocomplete="off"
 autocapitalize="off" spellcheck="false"></label>
-<label>Action text <input class="code" name="text" placeholder="20%3*print(hi)-&gt;off" autocomplete="off"
+<label>Action string <input class="code" name="text" placeholder="20%3*print(hi)-&gt;off" autocomplete="off"
 autocapitalize="off" spellcheck="false"></label>
-<p class="hint">A new setting has new budgets, of the same text too.</p>
+<p class="hint">Setting a point starts new budgets, even with the same actions.</p>
 <button class="main">Set</button>
 </fieldset></form>
 <form id="load"><fieldset>
-<legend>Load settings</legend>
+<legend>Load points</legend>
 <label>Entries, all or none <textarea class="code" name="text" rows="3" required
 placeholder="a=off;b=2*panic-&gt;off" autocapitalize="off" spellcheck="false"></textarea></label>
 <button class="main">Load</button>
@@ -254,7 +254,7 @@ const SLOWEST = 10000;
 const PATIENCE = 8000;
 const MOST_ANSWERS = 200;
 const MOST_NODES = 8;
-const BECAUSE = {"N1":"the node has accepted as many calls as its call limit","N2":"the name isn't 1 to 128 bytes of ASCII letters, digits, _, -, . and :","N3":"the action string or FAILPOINTS string is wrong; its own error follows","N4":"the node would hold more than 256 names; removed names count permanently","N5":"the clock would pass 2^64 - 1","N6":"the point isn't set at this node","N7":"the point has no term with this number; terms count from 0","N8":"the term has no count, so it needs no rights","N9":"the cluster has no such node, or it is this node","N10":"the amount is 0","N11":"this node holds only so many rights","N12":"the total that was transferred to that node, or that this node granted itself, would pass 2^64 - 1","A1":"the string has more than 1,024 bytes","A2":"the string has more than 16 terms","A3":"the term has a ( and doesn't end with )","A4":"the chance before the first % isn't a number from 0 to 100 with at most 4 decimals","A5":"the count before the first * isn't a whole number of at most 2^64 - 1","A6":"the action is missing","A7":"the action isn't one of off, return, sleep, panic, print, pause, yield and delay","A8":"sleep or delay has no argument","A9":"the argument of sleep or delay isn't a whole number of milliseconds of at most 2^64 - 1","A10":"the string has a control character or a ;","A11":"an allocation failed","S1":"the string has more than 65,536 bytes","S2":"the entry has no =","S3":"what stands before the first = is no name","S4":"the action string after the = is wrong; its own error follows, with offsets counted from there","S5":"an allocation failed"};
+const BECAUSE = {"N1":"the node has accepted as many calls as its call limit","N2":"the name isn't 1 to 128 bytes of ASCII letters, digits, _, -, . and :","N3":"the action string or FAILPOINTS string is wrong; its own error follows","N4":"the node would hold more than 256 names; removed names count permanently","N5":"the clock would pass 2^64 - 1","N6":"the point isn't set at this node","N7":"the point has no term with this number; terms count from 0","N8":"the term has no count, so it needs no rights","N9":"the cluster has no such node, or it is this node","N10":"the amount is 0","N11":"this node holds only so many rights","N12":"the total that was transferred to that node, or that this node granted itself, would pass 2^64 - 1","A1":"the string has more than 1,024 bytes","A2":"the string has more than 16 terms","A3":"the term has a ( and doesn't end with )","A4":"the chance before the first % isn't a number from 0 to 100 with at most 4 decimals","A5":"the count before the first * isn't a whole number of at most 2^64 - 1","A6":"the action is missing","A7":"the action isn't one of off, return, sleep, panic, print, pause, yield and delay","A8":"sleep or delay has no argument","A9":"the argument of sleep or delay isn't a whole number of milliseconds of at most 2^64 - 1","A10":"the string has a control character or a ;","A11":"an allocation failed","S1":"the string has more than 65,536 bytes","S2":"the entry has no =","S3":"the text before the first = isn't a name","S4":"the action string after the = is wrong; its own error follows, with offsets counted from there","S5":"an allocation failed"};
 let report = [];
 let node = null;
 let drawn = "";
@@ -312,7 +312,7 @@ function tell(what, answer) {
 const sign = make("span", answer.isDone ? "yes" : "no", answer.isDone ? "✓ " : "✗ ");
 const text = make("code", answer.isDone ? "" : "no", plain(clip(answer.text, 300)));
 const line = make("li", "", make("time", "", new Date().toTimeString().slice(0, 8)), " ", sign,
-make("code", "", plain(clip(what, 160))), answer.isDone ? " answered " : " was refused: ", text);
+make("code", "", plain(clip(what, 160))), answer.isDone ? " returned " : " was rejected: ", text);
 const codes = answer.isDone ? [] : answer.text.match(/\b[NAS]\d+(?= )/g) || [];
 const reasons = codes.map(code => BECAUSE[code]).filter(Boolean);
 if (reasons.length) line.append(" (" + reasons.join("; ") + ")");
@@ -323,10 +323,10 @@ find("log").scrollTop = 0;
 const isFolder = part => part === "." || part === "..";
 const spelled = parts => "/" + parts.map(part => encodeURIComponent(part).replace(/%3A/g, ":")).join("/");
 async function change(what, method, parts, body) {
-let answer = { isDone: false, text: "a browser can't name this point: curl --path-as-is can" };
+let answer = { isDone: false, text: "browsers can't address this point: use curl --path-as-is" };
 if (!parts.some(isFolder)) {
 answer = await ask(method, spelled(parts), body).catch(error => (
-{ isDone: false, text: "the node wasn't reached: " + error.message }));
+{ isDone: false, text: "cannot reach the node: " + error.message }));
 }
 tell(what, answer);
 if (answer.isDone) await refresh();
@@ -417,7 +417,7 @@ function row(point, terms) {
 const isSet = point.actions !== null;
 const text = make("code", "", ...(point.actions || "").split("->").map((term, i) => (
 make("span", "", (i ? "->" : "") + plain(term)))));
-const name = cell("name", make("span", "", point.name), make("span", "unseen", ", setting"), " ",
+const name = cell("name", make("span", "", point.name), make("span", "unseen", ", version"), " ",
 make("span", "stamp", point.stamp));
 const act = cell("act", button("Edit", "edit", point.name), " ");
 if (isSet) act.append(button("Remove", "remove", point.name));
@@ -490,7 +490,7 @@ if (refused) throw new Error(refused.text);
 const texts = answers.map(answer => answer.text);
 failures = 0;
 find("unlock").hidden = true;
-say(isHeld() ? "held" : "up to date", false);
+say(isHeld() ? "paused" : "up to date", false);
 if (texts.join() === drawn) return;
 drawn = texts.join();
 [report, { node }] = texts.map(text => JSON.parse(text));
@@ -498,7 +498,7 @@ draw();
 } catch (error) {
 if (mine !== latest) return;
 failures++;
-say("the node doesn't answer (" + clip(plain(error.message), 120) + "); below is what it said last", true);
+say("the node doesn't respond (" + clip(plain(error.message), 120) + "); showing its last report", true);
 }
 }
 const isHeld = () => find("hold").getAttribute("aria-pressed") === "true";
@@ -551,7 +551,7 @@ find("removed").addEventListener("change", draw);
 find("lock").addEventListener("click", () => { keep(null); refresh(); });
 find("hold").addEventListener("click", () => {
 find("hold").setAttribute("aria-pressed", String(!isHeld()));
-if (isHeld()) say("held", false); else refresh();
+if (isHeld()) say("paused", false); else refresh();
 });
 find("rows").addEventListener("click", event => {
 const { edit: edited, remove } = (event.target.closest("button") || { dataset: {} }).dataset;
@@ -569,8 +569,8 @@ turn();
 
 /// The `Content-Security-Policy` of the page, with the hashes of its style and its script.
 pub const POLICY: &str = "default-src 'none'; \
-    script-src 'sha256-biw0DVXQJBAYQuxisUVP0/LUyeV0dWoPb444J7OBLYY='; \
-    style-src 'sha256-8+5FRuRSBl/cIqyN7GcDWKemJeAmoDCQSLfOI6RGweA='; \
+    script-src 'sha256-GwRt8swvnRR8vMQEamEauH1VrwuBVszD+hCVSrnvZEE='; \
+    style-src 'sha256-aW/BilPoRwwDju1uicvINzhJUx5/l3d4HYtNHJcuXZA='; \
     connect-src 'self'; \
     base-uri 'none'; \
     form-action 'none'; \

@@ -15,7 +15,7 @@ const TELLING: (u16, &str) = (200, "telling");
 const NO_POST: (u16, &str) = (405, "bad method");
 const NO_OTHER_NODE: (u16, &str) = (
     400,
-    "no other node of this cluster: send the number of the node that asks to be told",
+    "expected the number of the requesting node: another node of this cluster",
 );
 
 /// The messages from one node.

@@ -172,7 +172,7 @@ fn a_key_lets_other_machines_in() {
     std::fs::set_permissions(&path, PermissionsExt::from_mode(0o644)).unwrap();
     let refused = told(&set);
     assert!(
-        refused.contains("others than its owner may use it, its mode is 0644: "),
+        refused.contains("other users can access it: its mode is 0644: "),
         "{refused}"
     );
 }

@@ -68,7 +68,7 @@ fn who_has_no_key_is_not_let_in() {
     let addr = (Ipv4Addr::LOCALHOST, served.serving().addr().port()).into();
     let key = hex(&bytes);
     let has = format!("Authorization: Bearer {key}\r\n");
-    let text = "no key: send Authorization: Bearer and the key in hex".to_string();
+    let text = "missing or wrong key: send Authorization: Bearer and the key in hex".to_string();
     for (line, body) in ROUTES {
         for fields in [
             String::new(),

@@ -10,10 +10,10 @@ returns c =
     let code = first_word c.args.text.now in
     let name = first_word (rest_of c.args.text.now) in
     let number = codes ": " ++ output_line (decimal c.args.calls) in
-    let parts : c.as_bytes.result.now ≡ codes "calls of workers refused as " ++ (code ++ space ∷ (name ++ number)) =
+    let parts : c.as_bytes.result.now ≡ codes "calls of workers rejected with " ++ (code ++ space ∷ (name ++ number)) =
     c.as_bytes.ensures.value ∙ (rw (c.first_word-code.ensures, c.first_word-name.ensures, c.rest_of.ensures)
     at c.in_ok-text.ensures.ok) in
     let text : c.as_bytes.result.now ≡ calls_said c.args.text.now c.args.calls =
-    parts ∙ ap (λ t. codes "calls of workers refused as " ++ t) (sym (append_assoc code (space ∷ name) number)) in
+    parts ∙ ap (λ t. codes "calls of workers rejected with " ++ t) (sym (append_assoc code (space ∷ name) number)) in
     grown_by c.extend_from_slice.result c.extend_from_slice.new.self.items c.args.said.now.items c.as_bytes.result.now
     _ c.extend_from_slice.ensures.items text
