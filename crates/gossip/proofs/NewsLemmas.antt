@@ -3,6 +3,7 @@ use Rattle.std.proofs.Common.{◌≡◌, ◌≤◌, ◌<◌, ℕ, ◌+◌, zero,
 use Rattle.std.proofs.lemmas.List.{map-append, append-nil}
 use Rattle.node_steps.specs.declared.config.Config.{Config}
 use Rattle.node_calls.specs.Asks.{bare_emit}
+use Rattle.node_registry.specs.Seats.{SeatState}
 use Rattle.gossip.specs.declared.news.News.{News}
 use Rattle.gossip.specs.declared.news.Pace.{Pace}
 use Rattle.gossip.specs.declared.report.GossipReport.{GossipReport}
@@ -42,7 +43,7 @@ looked_since le (told_it seen due near rest) =
 looked_since le (missed_it seen due near rest) =
     missed_it (seen_since _ _ _ _ _ _ le seen) due near (looked_since le rest)
 
-pub looks_since : {config : Config} {seed : List ℕ} {since later : ℕ} {says : ℕ → Bool → Type 0} {seat_was seat_now : ℕ}
+pub looks_since : {config : Config} {seed : List ℕ} {since later : ℕ} {says : ℕ → Bool → Type 0} {seat_was seat_now : SeatState}
     {was now : Traffic} {old new : GossipReport} {ps qs : List Pace} → since ≤ later →
     Looks config seed later says seat_was seat_now was now old new ps qs →
     Looks config seed since says seat_was seat_now was now old new ps qs
@@ -58,7 +59,7 @@ looks_since le p = record {
 }
 
 pub breaks_since : {config : Config} {seed : List ℕ} {since later : ℕ} {says : ℕ → Bool → Type 0}
-    {seat_was seat_now : ℕ} {was now : Traffic} {old new : GossipReport} {ps qs : List Pace} → since ≤ later →
+    {seat_was seat_now : SeatState} {was now : Traffic} {old new : GossipReport} {ps qs : List Pace} → since ≤ later →
     Breaks config seed later says seat_was seat_now was now old new ps qs →
     Breaks config seed since says seat_was seat_now was now old new ps qs
 breaks_since le p = record {
@@ -80,7 +81,7 @@ breaks_since le p = record {
 }
 
 -- nobody was looked at
-pub looks_nobody : (config : Config) (seed : List ℕ) (since : ℕ) (says : ℕ → Bool → Type 0) (seat : ℕ) (now : Traffic)
+pub looks_nobody : (config : Config) (seed : List ℕ) (since : ℕ) (says : ℕ → Bool → Type 0) (seat : SeatState) (now : Traffic)
     (report : GossipReport) →
     Looks config seed since says seat seat now now report report [] []
 looks_nobody config seed since says seat now report = record {
@@ -95,7 +96,7 @@ looks_nobody config seed since says seat now report = record {
 }
 
 -- a peer is left alone, told, or missed
-pub looks_away : {config : Config} {seed : List ℕ} {since : ℕ} {says : ℕ → Bool → Type 0} {seat : ℕ} {now : Traffic}
+pub looks_away : {config : Config} {seed : List ℕ} {since : ℕ} {says : ℕ → Bool → Type 0} {seat : SeatState} {now : Traffic}
     {report : GossipReport} (p after : Pace)
     (n : News) → IsSeen config seed since p.node n → is_due p n ≡ false → after ≡ rested p →
     Looks config seed since says seat seat now now report report (p ∷ []) (after ∷ [])
@@ -110,7 +111,7 @@ looks_away {config = config} {seed = seed} {since = since} {says = says} p after
   counted = omega arith;
 }
 
-pub looks_unreached : {config : Config} {seed : List ℕ} {since : ℕ} {says : ℕ → Bool → Type 0} {seat : ℕ} {was now : Traffic}
+pub looks_unreached : {config : Config} {seed : List ℕ} {since : ℕ} {says : ℕ → Bool → Type 0} {seat : SeatState} {was now : Traffic}
     {report : GossipReport}
     (p after : Pace) (n : News) → IsSeen config seed since p.node n → is_due p n ≡ true → says p.node false → now ≡ was →
     after ≡ missed_pace p →
@@ -127,7 +128,7 @@ looks_unreached {config = config} {seed = seed} {since = since} {says = says} p 
 }
 
 -- from traffic that is the same
-pub looks_from : {config : Config} {seed : List ℕ} {since : ℕ} {says : ℕ → Bool → Type 0} {seat_was seat_now : ℕ}
+pub looks_from : {config : Config} {seed : List ℕ} {since : ℕ} {says : ℕ → Bool → Type 0} {seat_was seat_now : SeatState}
     {was amid now : Traffic}
     {old new : GossipReport} {ps qs : List Pace} → amid ≡ was →
     Looks config seed since says seat_was seat_now amid now old new ps qs →
@@ -136,7 +137,7 @@ looks_from {config = config} {seed = seed} {since = since} {says = says} {seat_w
     {old = old} {new = new}
     {ps = ps} {qs = qs} same p = subst (λ t. Looks config seed since says seat_was seat_now t now old new ps qs) same p
 
-pub breaks_from : {config : Config} {seed : List ℕ} {since : ℕ} {says : ℕ → Bool → Type 0} {seat_was seat_now : ℕ}
+pub breaks_from : {config : Config} {seed : List ℕ} {since : ℕ} {says : ℕ → Bool → Type 0} {seat_was seat_now : SeatState}
     {was amid now : Traffic}
     {old new : GossipReport} {ps qs : List Pace} → amid ≡ was →
     Breaks config seed since says seat_was seat_now amid now old new ps qs →
@@ -145,7 +146,7 @@ breaks_from {config = config} {seed = seed} {since = since} {says = says} {seat_
     {old = old} {new = new}
     {ps = ps} {qs = qs} same p = subst (λ t. Breaks config seed since says seat_was seat_now t now old new ps qs) same p
 
-pub looks_told : {config : Config} {seed : List ℕ} {since : ℕ} {says : ℕ → Bool → Type 0} {seat_was seat_now : ℕ}
+pub looks_told : {config : Config} {seed : List ℕ} {since : ℕ} {says : ℕ → Bool → Type 0} {seat_was seat_now : SeatState}
     {was now : Traffic} {old new : GossipReport}
     (p after : Pace) (n : News) → IsSeen config seed since p.node n → is_due p n ≡ true → says p.node true →
     after ≡ told_pace p n →
@@ -167,7 +168,7 @@ looks_told {config = config} {seed = seed} {since = since}
       counted = omega (arith, counted);
     }
 
-pub looks_missed : {config : Config} {seed : List ℕ} {since : ℕ} {says : ℕ → Bool → Type 0} {seat_was seat_now : ℕ}
+pub looks_missed : {config : Config} {seed : List ℕ} {since : ℕ} {says : ℕ → Bool → Type 0} {seat_was seat_now : SeatState}
     {was now : Traffic} {old new : GossipReport}
     (p after : Pace) (n : News) → IsSeen config seed since p.node n → is_due p n ≡ true → says p.node true →
     after ≡ missed_pace p →
@@ -190,7 +191,7 @@ looks_missed {config = config} {seed = seed} {since = since}
     }
 
 -- and memory is refused
-pub breaks_now : {config : Config} {seed : List ℕ} {since : ℕ} {says : ℕ → Bool → Type 0} {seat_was seat_now : ℕ}
+pub breaks_now : {config : Config} {seed : List ℕ} {since : ℕ} {says : ℕ → Bool → Type 0} {seat_was seat_now : SeatState}
     {was now : Traffic} {old new : GossipReport}
     (p : Pace) (n : News) → IsSeen config seed since p.node n → is_due p n ≡ true → says p.node true →
     Adds config seed seat_was seat_now old new (bare_emit p.node ∷ []) →
@@ -215,7 +216,7 @@ breaks_now p n seen due near adds stops = record {
 }
 
 -- one after the other
-pub looks_then : {config : Config} {seed : List ℕ} {since : ℕ} {says : ℕ → Bool → Type 0} {seat_was between seat_now : ℕ}
+pub looks_then : {config : Config} {seed : List ℕ} {since : ℕ} {says : ℕ → Bool → Type 0} {seat_was between seat_now : SeatState}
     {was amid now : Traffic}
     {old middle new : GossipReport} {ps qs ps' qs' : List Pace} →
     Looks config seed since says seat_was between was amid old middle ps qs →
@@ -232,7 +233,7 @@ looks_then {ps = ps} {ps' = ps'} p q = record {
   counted = omega (arith, p.counted, q.counted, length-append p.missed q.missed);
 }
 
-pub breaks_then : {config : Config} {seed : List ℕ} {since : ℕ} {says : ℕ → Bool → Type 0} {seat_was between seat_now : ℕ}
+pub breaks_then : {config : Config} {seed : List ℕ} {since : ℕ} {says : ℕ → Bool → Type 0} {seat_was between seat_now : SeatState}
     {was amid now : Traffic}
     {old middle new : GossipReport} {ps qs ps' qs' : List Pace} →
     Looks config seed since says seat_was between was amid old middle ps qs →
@@ -258,7 +259,7 @@ breaks_then {ps = ps} {qs = qs} p q = record {
 }
 
 -- with more peers behind
-pub breaks_before : {config : Config} {seed : List ℕ} {since : ℕ} {says : ℕ → Bool → Type 0} {seat_was seat_now : ℕ}
+pub breaks_before : {config : Config} {seed : List ℕ} {since : ℕ} {says : ℕ → Bool → Type 0} {seat_was seat_now : SeatState}
     {was now : Traffic} {old new : GossipReport}
     {ps qs : List Pace} → Breaks config seed since says seat_was seat_now was now old new ps qs → (rest : List Pace) →
     Breaks config seed since says seat_was seat_now was now old new (ps ++ rest) (qs ++ rest)
@@ -324,7 +325,7 @@ joined [] (suc i) = refl
 joined (x ∷ xs) zero = refl
 joined (x ∷ xs) (suc i) = ap (λ l. x ∷ l) (joined xs i)
 
-looks_as : {config : Config} {seed : List ℕ} {since : ℕ} {says : ℕ → Bool → Type 0} {seat_was seat_now : ℕ} {was now : Traffic}
+looks_as : {config : Config} {seed : List ℕ} {since : ℕ} {says : ℕ → Bool → Type 0} {seat_was seat_now : SeatState} {was now : Traffic}
     {old new : GossipReport}
     {ps qs ps' qs' : List Pace} → Looks config seed since says seat_was seat_now was now old new ps qs → ps ≡ ps' → qs ≡ qs' →
     Looks config seed since says seat_was seat_now was now old new ps' qs'
@@ -334,7 +335,7 @@ looks_as {config = config} {seed = seed} {since = since} {says = says} {seat_was
     subst (λ l. Looks config seed since says seat_was seat_now was now old new ps' l) after
     (subst (λ l. Looks config seed since says seat_was seat_now was now old new l qs) before p)
 
-breaks_as : {config : Config} {seed : List ℕ} {since : ℕ} {says : ℕ → Bool → Type 0} {seat_was seat_now : ℕ} {was now : Traffic}
+breaks_as : {config : Config} {seed : List ℕ} {since : ℕ} {says : ℕ → Bool → Type 0} {seat_was seat_now : SeatState} {was now : Traffic}
     {old new : GossipReport}
     {ps qs ps' qs' : List Pace} → Breaks config seed since says seat_was seat_now was now old new ps qs → ps ≡ ps' →
     qs ≡ qs' →
@@ -349,7 +350,7 @@ next_is : (i : ℕ) → i + 1 ≡ suc i
 next_is i = omega arith
 
 -- one more of the peers is looked at, or memory is refused there
-pub looks_on : {config : Config} {seed : List ℕ} {since : ℕ} {says : ℕ → Bool → Type 0} {seat_was between seat_now : ℕ}
+pub looks_on : {config : Config} {seed : List ℕ} {since : ℕ} {says : ℕ → Bool → Type 0} {seat_was between seat_now : SeatState}
     {was amid now : Traffic}
     {old middle new : GossipReport} (ps qs : List Pace) (i : ℕ) (none after : Pace) → i < length qs →
     length qs ≡ length ps →
@@ -364,7 +365,7 @@ looks_on ps qs i none after lt long same p q =
     sym (taken_written qs i after lt) ∙ ap (λ k. take k (set qs i after)) (sym (next_is i)) in
     looks_as (looks_then p q) first then_after
 
-pub breaks_on : {config : Config} {seed : List ℕ} {since : ℕ} {says : ℕ → Bool → Type 0} {seat_was between seat_now : ℕ}
+pub breaks_on : {config : Config} {seed : List ℕ} {since : ℕ} {says : ℕ → Bool → Type 0} {seat_was between seat_now : SeatState}
     {was amid now : Traffic}
     {old middle new : GossipReport} (ps qs : List Pace) (i : ℕ) (none : Pace) → i < length qs → length qs ≡ length ps →
     drop i qs ≡ drop i ps → Looks config seed since says seat_was between was amid old middle (take i ps) (take i qs) →
@@ -388,7 +389,7 @@ same_on ps qs i after same =
 -- ---- a report of all
 
 -- all peers were looked at, and what came was taken in
-pub news_round : {config : Config} {seed : List ℕ} {since : ℕ} {says : ℕ → Bool → Type 0} {seat_was between seat_now : ℕ}
+pub news_round : {config : Config} {seed : List ℕ} {since : ℕ} {says : ℕ → Bool → Type 0} {seat_was between seat_now : SeatState}
     {was amid now : Traffic}
     {old middle new : GossipReport} {ps qs : List Pace} → IsEmpty old →
     Looks config seed since says seat_was between was amid old middle ps qs →
@@ -405,7 +406,7 @@ news_round empty p adds tried moves = record {
   carries = carries_of (moves_as (moves_then p.moves moves) (append-nil p.tos)) empty.receipts empty.lost empty.refused;
 }
 
-pub told_by_looks : {config : Config} {seed : List ℕ} {since : ℕ} {says : ℕ → Bool → Type 0} {seat_was between seat_now : ℕ}
+pub told_by_looks : {config : Config} {seed : List ℕ} {since : ℕ} {says : ℕ → Bool → Type 0} {seat_was between seat_now : SeatState}
     {was amid : Traffic}
     {old middle new : GossipReport} {ps qs : List Pace} → IsEmpty old →
     Looks config seed since says seat_was between was amid old middle ps qs →
@@ -415,7 +416,7 @@ told_by_looks empty p adds = told_of (adds_then p.adds adds) empty.receipts empt
     empty.refused empty.noted
 
 -- memory was refused at a peer
-pub news_broken : {config : Config} {seed : List ℕ} {since : ℕ} {says : ℕ → Bool → Type 0} {seat_was seat_now : ℕ}
+pub news_broken : {config : Config} {seed : List ℕ} {since : ℕ} {says : ℕ → Bool → Type 0} {seat_was seat_now : SeatState}
     {was now : Traffic} {old new : GossipReport}
     {ps qs : List Pace} → IsEmpty old → Breaks config seed since says seat_was seat_now was now old new ps qs →
     IsNewsBroken config seed since says was now ps qs new
@@ -439,7 +440,7 @@ news_broken empty p = record {
 }
 
 -- or while what came was taken in
-pub news_unheard : {config : Config} {seed : List ℕ} {since : ℕ} {says : ℕ → Bool → Type 0} {seat_was between seat_now : ℕ}
+pub news_unheard : {config : Config} {seed : List ℕ} {since : ℕ} {says : ℕ → Bool → Type 0} {seat_was between seat_now : SeatState}
     {was amid now : Traffic}
     {old middle new : GossipReport} {ps qs : List Pace} → IsEmpty old →
     Looks config seed since says seat_was between was amid old middle ps qs →

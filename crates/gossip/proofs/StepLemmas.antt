@@ -8,11 +8,12 @@ use Rattle.node_steps.specs.declared.config.Config.{Config}
 use Rattle.node_calls.specs.declared.receipt.Receipt.{Receipt}
 use Rattle.message_format.specs.declared.fault.WireFault.{WireFault}
 use Rattle.node_calls.specs.Asks.{Asked, Message, Shift, Deliver, ask_value_first, bare_emit, message_read}
-use Rattle.node_registry.specs.Receipts.{AreGivenSince, IsGiven}
+use Rattle.node_registry.specs.Receipts.{AreGivenSince, IsGiven, seat_after}
 use Rattle.node_registry.specs.Refusals.{Refusal}
+use Rattle.node_registry.specs.Seats.{ComesNext, SeatState, called}
 use Rattle.node_calls.specs.declared.ask.Ask.{Ask}
 use Rattle.node_calls.specs.declared.fault.NodeFault.{NodeFault}
-use Rattle.node_registry.proofs.SeatReceipts.{given_on}
+use Rattle.node_registry.proofs.SeatReceipts.{after_both, given_on}
 use Rattle.gossip.specs.declared.report.GossipReport.{GossipReport}
 use Rattle.gossip.specs.Parts.{IsPartOf}
 use Rattle.gossip.specs.Reports.{IsTold, asked_in, asks_in, is_delivery, is_emit, own_asks_in, own_refused_in}
@@ -47,14 +48,15 @@ own_refused_both config xs ys =
     (map (λ r. ask_value_first config.nodes r.0) ys)
 
 -- no call
-pub adds_none : (config : Config) (seed : List ℕ) (was now : ℕ) (old new : GossipReport) (wanted : List Asked)
+pub adds_none : (config : Config) (seed : List ℕ) (was now : SeatState) (old new : GossipReport) (wanted : List Asked)
     → now ≡ was → new.receipts.items ≡ old.receipts.items → new.emitted ≡ old.emitted → new.delivered ≡ old.delivered →
     new.ended ≡ old.ended → new.refused ≡ old.refused → new.noted ≡ old.noted
     → Adds config seed was now old new wanted
 adds_none config seed was now old new wanted counted receipts emitted delivered ended refused noted = record {
   more = [];
   receipts = receipts ∙ sym (append-nil old.receipts.items);
-  counted = omega arith;
+  calls = let same = ap (λ (s : SeatState). s.calls) counted in omega (arith, same);
+  counted = counted;
   given = tt;
   emitted = omega arith;
   delivered = omega arith;
@@ -67,7 +69,7 @@ adds_none config seed was now old new wanted counted receipts emitted delivered 
 }
 
 -- a call that was refused
-pub adds_refused : (config : Config) (seed : List ℕ) (was now : ℕ) (old new : GossipReport) (ask : Ask)
+pub adds_refused : (config : Config) (seed : List ℕ) (was now : SeatState) (old new : GossipReport) (ask : Ask)
     (fault : NodeFault) (wanted : List Asked)
     → now ≡ was → new.receipts.items ≡ old.receipts.items → new.emitted ≡ old.emitted → new.delivered ≡ old.delivered →
     new.ended ≡ old.ended
@@ -78,7 +80,8 @@ adds_refused config seed was now old new ask fault wanted counted receipts emitt
     record {
       more = [];
       receipts = receipts ∙ sym (append-nil old.receipts.items);
-      counted = omega arith;
+      calls = let same = ap (λ (s : SeatState). s.calls) counted in omega (arith, same);
+      counted = counted;
       given = tt;
       emitted = omega arith;
       delivered = omega arith;
@@ -91,9 +94,9 @@ adds_refused config seed was now old new ask fault wanted counted receipts emitt
     }
 
 -- one call
-pub adds_one : (config : Config) (seed : List ℕ) (was now : ℕ) (old new : GossipReport) (r : Receipt) (ask : Asked)
+pub adds_one : (config : Config) (seed : List ℕ) (was now : SeatState) (old new : GossipReport) (r : Receipt) (ask : Asked)
     (wanted : List Asked)
-    → asked_in config r ≡ ask → IsGiven config seed r → was ≤ r.index → now ≡ was + 1
+    → asked_in config r ≡ ask → IsGiven config seed r → ComesNext was r.index → now ≡ called was r.index
     → new.receipts.items ≡ old.receipts.items ++ r ∷ []
     → new.emitted ≡ old.emitted + cond (is_emit ask) 1 0
     → new.delivered ≡ old.delivered + cond (is_delivery ask) 1 0
@@ -105,7 +108,8 @@ adds_one config seed was now old new r ask wanted asks given since counted recei
     record {
       more = r ∷ [];
       receipts = receipts;
-      counted = omega arith;
+      calls = let one = ap (λ (s : SeatState). s.calls) counted in omega (arith, one);
+      counted = counted;
       given = (given, since, tt);
       emitted = emitted ∙ ap (λ a. old.emitted + a) (sym (count_one is_emit ask) ∙
           ap (λ a. count_by is_emit (a ∷ [])) (sym asks));
@@ -120,10 +124,10 @@ adds_one config seed was now old new r ask wanted asks given since counted recei
     }
 
 -- an emit, a delivery and a shift
-pub adds_emit : (config : Config) (seed : List ℕ) (was now to : ℕ) (old new : GossipReport) (between : List Receipt)
+pub adds_emit : (config : Config) (seed : List ℕ) (was now : SeatState) (to : ℕ) (old new : GossipReport) (between : List Receipt)
     (r : Receipt)
     → asked_in config r ≡ bare_emit to
-    → IsGiven config seed r → was ≤ r.index → now ≡ was + 1
+    → IsGiven config seed r → ComesNext was r.index → now ≡ called was r.index
     → between ≡ old.receipts.items → new.receipts.items ≡ between ++ r ∷ []
     → new.emitted ≡ old.emitted + 1 → new.delivered ≡ old.delivered → new.ended ≡ old.ended
     → new.refused ≡ old.refused → new.noted ≡ old.noted
@@ -134,10 +138,10 @@ adds_emit config seed was now to old new between r asked given since counted kep
     given since counted (more ∙ ap (λ l. l ++ r ∷ []) kept) emitted (omega arith) (parts.kept parts.none) ended refused
     noted
 
-pub adds_delivery : (config : Config) (seed : List ℕ) (was now : ℕ) (read : Result Message WireFault)
+pub adds_delivery : (config : Config) (seed : List ℕ) (was now : SeatState) (read : Result Message WireFault)
     (old new : GossipReport) (r : Receipt)
     → asked_in config r ≡ Deliver read
-    → IsGiven config seed r → was ≤ r.index → now ≡ was + 1
+    → IsGiven config seed r → ComesNext was r.index → now ≡ called was r.index
     → new.receipts.items ≡ old.receipts.items ++ r ∷ []
     → new.emitted ≡ old.emitted → new.delivered ≡ old.delivered + 1 → new.ended ≡ old.ended
     → new.refused ≡ old.refused → new.noted ≡ old.noted
@@ -146,10 +150,10 @@ adds_delivery config seed was now read old new r asked given since counted more 
     adds_one config seed was now old new r (Deliver read) [] asked
     given since counted more (omega arith) delivered parts.none ended refused noted
 
-pub adds_shift : (config : Config) (seed : List ℕ) (was now : ℕ) (name : List ℕ) (term to amount : ℕ)
+pub adds_shift : (config : Config) (seed : List ℕ) (was now : SeatState) (name : List ℕ) (term to amount : ℕ)
     (old new : GossipReport) (between : List Receipt) (r : Receipt)
     → asked_in config r ≡ Shift name term to amount
-    → IsGiven config seed r → was ≤ r.index → now ≡ was + 1
+    → IsGiven config seed r → ComesNext was r.index → now ≡ called was r.index
     → between ≡ old.receipts.items → new.receipts.items ≡ between ++ r ∷ []
     → new.emitted ≡ old.emitted → new.delivered ≡ old.delivered → new.ended ≡ old.ended
     → new.refused ≡ old.refused → new.noted ≡ old.noted
@@ -161,7 +165,7 @@ adds_shift config seed was now name term to amount old new between r asked given
     refused noted
 
 -- calls, and then more
-pub adds_then : {config : Config} {seed : List ℕ} {was between now : ℕ} {old middle new : GossipReport}
+pub adds_then : {config : Config} {seed : List ℕ} {was between now : SeatState} {old middle new : GossipReport}
     {first second : List Asked}
     → Adds config seed was between old middle first → Adds config seed between now middle new second
     → Adds config seed was now old new (first ++ second)
@@ -169,8 +173,9 @@ adds_then {config = config} {seed = seed} {was = was} {between = between} {now =
     {new = new} {first = first} {second = second} p q = record {
       more = p.more ++ q.more;
       receipts = q.receipts ∙ ap (λ l. l ++ q.more) p.receipts ∙ append_assoc old.receipts.items p.more q.more;
-      counted = omega (arith, length-append p.more q.more, p.counted, q.counted);
-      given = given_on config seed was p.more q.more p.given (subst (λ n. AreGivenSince config seed n q.more) p.counted
+      calls = omega (arith, length-append p.more q.more, p.calls, q.calls);
+      counted = q.counted ∙ ap (λ s. seat_after s q.more) p.counted ∙ sym (after_both was p.more q.more);
+      given = given_on config seed was p.more q.more p.given (subst (λ s. AreGivenSince config seed s q.more) p.counted
           q.given);
       emitted = omega (arith, p.emitted, q.emitted, counts_both config is_emit p.more q.more);
       delivered = omega (arith, p.delivered, q.delivered, counts_both config is_delivery p.more q.more);
@@ -190,11 +195,12 @@ adds_then {config = config} {seed = seed} {was = was} {between = between} {now =
     }
 
 -- calls of these are calls of some of more
-pub adds_of_more : {config : Config} {seed : List ℕ} {was now : ℕ} {old new : GossipReport} {wanted : List Asked}
+pub adds_of_more : {config : Config} {seed : List ℕ} {was now : SeatState} {old new : GossipReport} {wanted : List Asked}
     → Adds config seed was now old new wanted → (rest : List Asked) → Adds config seed was now old new (wanted ++ rest)
 adds_of_more p rest = record {
   more = p.more;
   receipts = p.receipts;
+  calls = p.calls;
   counted = p.counted;
   given = p.given;
   emitted = p.emitted;
@@ -207,27 +213,28 @@ adds_of_more p rest = record {
   ended = p.ended;
 }
 
-pub adds_as : {config : Config} {seed : List ℕ} {was now : ℕ} {old new : GossipReport} {wanted other : List Asked}
+pub adds_as : {config : Config} {seed : List ℕ} {was now : SeatState} {old new : GossipReport} {wanted other : List Asked}
     → Adds config seed was now old new wanted → wanted ≡ other → Adds config seed was now old new other
 adds_as {config = config} {seed = seed} {was = was} {now = now} {old = old} {new = new} p e =
     subst (λ w. Adds config seed was now old new w) e p
 
 -- a report of all calls
-pub told_of : {config : Config} {seed : List ℕ} {was now : ℕ} {old new : GossipReport} {wanted : List Asked}
+pub told_of : {config : Config} {seed : List ℕ} {was now : SeatState} {old new : GossipReport} {wanted : List Asked}
     → Adds config seed was now old new wanted → old.receipts.items ≡ [] → old.emitted ≡ 0 → old.delivered ≡ 0 →
     old.refused ≡ 0 → old.noted ≡ []
     → IsTold config seed was now new
 told_of {config = config} {seed = seed} {was = was} {now = now} {new = new} p empty none none_too unrefused unnoted =
     let e : new.receipts.items ≡ p.more = p.receipts ∙ ap (λ l. l ++ p.more) empty in
     record {
-      counted = p.counted ∙ ap (λ l. was + length l) (sym e);
+      calls = p.calls ∙ ap (λ l. was.calls + length l) (sym e);
+      counted = p.counted ∙ ap (seat_after was) (sym e);
       given = subst (λ l. AreGivenSince config seed was l) (sym e) p.given;
       emitted = omega (arith, p.emitted, none, ap (λ l. count_by is_emit (asks_in config l)) e);
       delivered = omega (arith, p.delivered, none_too, ap (λ l. count_by is_delivery (asks_in config l)) e);
       refused = omega (arith, p.refused, unrefused, ap refused_of (p.refusals ∙ ap (λ l. l ++ p.noted) unnoted));
     }
 
-pub part_of_all : {config : Config} {seed : List ℕ} {was now : ℕ} {old new : GossipReport} {wanted : List Asked}
+pub part_of_all : {config : Config} {seed : List ℕ} {was now : SeatState} {old new : GossipReport} {wanted : List Asked}
     → Adds config seed was now old new wanted → old.receipts.items ≡ [] →
     IsPartOf (own_asks_in config new.receipts.items) wanted
 part_of_all {config = config} {new = new} {wanted = wanted} p empty =
@@ -235,13 +242,13 @@ part_of_all {config = config} {new = new} {wanted = wanted} p empty =
     subst (λ l. IsPartOf (own_asks_in config l) wanted) (sym e) p.part
 
 -- one more of the others, and up to all of them
-pub adds_next : {config : Config} {seed : List ℕ} {was between now : ℕ} {old middle new : GossipReport} (f : ℕ → Asked)
+pub adds_next : {config : Config} {seed : List ℕ} {was between now : SeatState} {old middle new : GossipReport} (f : ℕ → Asked)
     (own n : ℕ) → n ≢ own
     → Adds config seed was between old middle (map f (but own n)) → Adds config seed between now middle new (f n ∷ [])
     → Adds config seed was now old new (map f (but own (n + 1)))
 adds_next f own n ne p q = adds_as (adds_then p q) (sym (but_another f own n ne))
 
-pub adds_itself : {config : Config} {seed : List ℕ} {was now : ℕ} {old new : GossipReport} (f : ℕ → Asked) (own n : ℕ) →
+pub adds_itself : {config : Config} {seed : List ℕ} {was now : SeatState} {old new : GossipReport} (f : ℕ → Asked) (own n : ℕ) →
     n ≡ own
     → Adds config seed was now old new (map f (but own n)) → Adds config seed was now old new (map f (but own (n + 1)))
 adds_itself f own n e p = adds_as p (sym (but_itself f own n e))
@@ -252,7 +259,7 @@ up_to f own n all le =
     let e : all ≡ n + (all - n) = omega arith in
     ap (λ k. map f (but own k)) e ∙ but_rest f own n (all - n)
 
-pub adds_up_to : {config : Config} {seed : List ℕ} {was now : ℕ} {old new : GossipReport} (f : ℕ → Asked)
+pub adds_up_to : {config : Config} {seed : List ℕ} {was now : SeatState} {old new : GossipReport} (f : ℕ → Asked)
     (own n all : ℕ) → n ≤ all
     → Adds config seed was now old new (map f (but own n)) → Adds config seed was now old new (map f (but own all))
 adds_up_to f own n all le p = adds_as (adds_of_more p _) (sym (up_to f own n all le))
@@ -273,7 +280,7 @@ pub length_itself : (f : ℕ → Asked) (own n : ℕ) → n ≡ own → length (
 length_itself f own n e = ap length (but_itself f own n e)
 
 -- the same over the rounds, or the terms
-pub adds_turn : {config : Config} {seed : List ℕ} {was between now : ℕ} {old middle new : GossipReport}
+pub adds_turn : {config : Config} {seed : List ℕ} {was between now : SeatState} {old middle new : GossipReport}
     (f : ℕ → List Asked) (n : ℕ)
     → Adds config seed was between old middle (flat_map f (range_with_len 0 n)) →
     Adds config seed between now middle new (f n)
@@ -286,7 +293,7 @@ turns_to f n all le =
     let e : all ≡ n + (all - n) = omega arith in
     ap (λ k. flat_map f (range_with_len 0 k)) e ∙ over_rest f n (all - n)
 
-pub adds_turns : {config : Config} {seed : List ℕ} {was now : ℕ} {old new : GossipReport} (f : ℕ → List Asked)
+pub adds_turns : {config : Config} {seed : List ℕ} {was now : SeatState} {old new : GossipReport} (f : ℕ → List Asked)
     (n all : ℕ) → n ≤ all
     → Adds config seed was now old new (flat_map f (range_with_len 0 n)) →
     Adds config seed was now old new (flat_map f (range_with_len 0 all))

@@ -2,6 +2,7 @@
 use Rattle.std.specs.Prelude.{◌≡◌, ◌⊎◌, ◌≤◌, ℕ, ◌+◌, Bool, true, List, [], ◌∷◌, ◌++◌, length, map}
 use Rattle.node_steps.specs.declared.config.Config.{Config}
 use Rattle.node_calls.specs.Asks.{bare_emit}
+use Rattle.node_registry.specs.Seats.{SeatState}
 use Rattle.gossip.specs.declared.news.News.{News}
 use Rattle.gossip.specs.declared.news.Pace.{Pace}
 use Rattle.gossip.specs.declared.report.GossipReport.{GossipReport}
@@ -22,7 +23,7 @@ pub record IsEmpty (r : GossipReport) : Type 0 where
   pub noted : r.noted ≡ []
 
 -- these peers were looked at, and what was told them is in the report
-pub record Looks (config : Config) (seed : List ℕ) (since : ℕ) (says : ℕ → Bool → Type 0) (seat_was seat_now : ℕ)
+pub record Looks (config : Config) (seed : List ℕ) (since : ℕ) (says : ℕ → Bool → Type 0) (seat_was seat_now : SeatState)
     (was now : Traffic) (old new : GossipReport)
     (ps qs : List Pace) : Type 0 where
   pub tos : List ℕ
@@ -35,7 +36,7 @@ pub record Looks (config : Config) (seed : List ℕ) (since : ℕ) (says : ℕ �
   pub counted : new.lost + new.refused ≡ old.lost + old.refused + length missed
 
 -- the first of these peers were looked at, and at the next one, which was to be told, memory was refused
-pub record Breaks (config : Config) (seed : List ℕ) (since : ℕ) (says : ℕ → Bool → Type 0) (seat_was seat_now : ℕ)
+pub record Breaks (config : Config) (seed : List ℕ) (since : ℕ) (says : ℕ → Bool → Type 0) (seat_was seat_now : SeatState)
     (was now : Traffic) (old new : GossipReport)
     (ps qs : List Pace) : Type 0 where
   pub first : List Pace

@@ -5,8 +5,9 @@ use Rattle.node_steps.specs.declared.config.Config.{Config}
 use Rattle.node_calls.specs.declared.receipt.Receipt.{Receipt}
 use Rattle.node_calls.specs.Asks as asks
 use Rattle.node_calls.specs.Asks.{Asked, ask_value_first, bare_emit}
-use Rattle.node_registry.specs.Receipts.{AreGivenSince}
+use Rattle.node_registry.specs.Receipts.{AreGivenSince, seat_after}
 use Rattle.node_registry.specs.Refusals.{Refusal}
+use Rattle.node_registry.specs.Seats.{SeatState}
 use Rattle.gossip.specs.declared.report.GossipReport.{GossipReport}
 use Rattle.gossip.specs.Refused.{refused_of}
 
@@ -36,10 +37,11 @@ refused_asks_in config refusals = map (λ refusal. ask_value_first config.nodes 
 abbrev pub own_refused_in : Config → List Refusal → List Asked
 own_refused_in config refusals = filter (λ ask. not (is_delivery ask)) (refused_asks_in config refusals)
 
--- a seat that had made so many calls has made as many more as the report has receipts, which the node gave it since;
--- the report counts the messages that they made and took in, and the calls that the registry noted as refused
-pub record IsTold (config : Config) (seed : List ℕ) (was now : ℕ) (r : GossipReport) : Type 0 where
-  pub counted : now ≡ was + length r.receipts.items
+-- the report has a receipt of each call that a seat made, which the node gave it, in the order of the calls; it counts
+-- the messages that they made and took in, and the calls that the registry noted as refused
+pub record IsTold (config : Config) (seed : List ℕ) (was now : SeatState) (r : GossipReport) : Type 0 where
+  pub calls : now.calls ≡ was.calls + length r.receipts.items
+  pub counted : now ≡ seat_after was r.receipts.items
   pub given : AreGivenSince config seed was r.receipts.items
   pub emitted : r.emitted ≡ count_by is_emit (asks_in config r.receipts.items)
   pub delivered : r.delivered ≡ count_by is_delivery (asks_in config r.receipts.items)

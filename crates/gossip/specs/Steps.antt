@@ -3,8 +3,9 @@ use Rattle.std.specs.Prelude.{◌≡◌, ◌≤◌, ℕ, ◌+◌, List, ◌++◌
 use Rattle.node_steps.specs.declared.config.Config.{Config}
 use Rattle.node_calls.specs.declared.receipt.Receipt.{Receipt}
 use Rattle.node_calls.specs.Asks.{Asked}
-use Rattle.node_registry.specs.Receipts.{AreGivenSince}
+use Rattle.node_registry.specs.Receipts.{AreGivenSince, seat_after}
 use Rattle.node_registry.specs.Refusals.{Refusal}
+use Rattle.node_registry.specs.Seats.{SeatState}
 use Rattle.gossip.specs.declared.report.GossipReport.{GossipReport}
 use Rattle.gossip.specs.Carried.{Begins, Carries}
 use Rattle.gossip.specs.Parts.{IsPartOf}
@@ -12,13 +13,14 @@ use Rattle.gossip.specs.Reports.{asks_in, is_delivery, is_emit, own_asks_in, own
 use Rattle.gossip.specs.Refused.{refused_of}
 use Rattle.gossip.specs.Traffic.{Traffic}
 
--- calls of a seat that had made so many add their receipts, of which those that took in no message ask some
--- of these, in order; and so do the refusals that were noted
-pub record Adds (config : Config) (seed : List ℕ) (was now : ℕ) (old new : GossipReport) (wanted : List Asked) :
+-- calls of a seat add their receipts, of which those that took in no message ask some of these, in order; and so do the
+-- refusals that were noted
+pub record Adds (config : Config) (seed : List ℕ) (was now : SeatState) (old new : GossipReport) (wanted : List Asked) :
     Type 0 where
   pub more : List Receipt
   pub receipts : new.receipts.items ≡ old.receipts.items ++ more
-  pub counted : now ≡ was + length more
+  pub calls : now.calls ≡ was.calls + length more
+  pub counted : now ≡ seat_after was more
   pub given : AreGivenSince config seed was more
   pub emitted : new.emitted ≡ old.emitted + count_by is_emit (asks_in config more)
   pub delivered : new.delivered ≡ old.delivered + count_by is_delivery (asks_in config more)

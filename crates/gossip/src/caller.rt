@@ -1,8 +1,9 @@
 //! How a registry is called.
 
-ghost use Rattle.std.specs.Prelude.{◌≡◌, ◌≤◌, ◌+◌, ◌++◌, ◌∷◌, [], IfErr, IfOk, OnErr, OnOk};
+ghost use Rattle.std.specs.Prelude.{◌≡◌, ◌++◌, ◌∷◌, [], IfErr, IfOk, OnErr, OnOk};
 ghost use Rattle.node_calls.specs.Asks.{ask_value_first};
 ghost use Rattle.node_registry.specs.Receipts.{IsGiven, IsRefused};
+ghost use Rattle.node_registry.specs.Seats.{ComesNext, called};
 
 use node_core::{Ask, NodeFault, Receipt};
 use node_registry::{Label, Refusals, Registry, Seat};
@@ -27,8 +28,8 @@ impl<L: Label, R: Wait> Caller<'_, L, R> {
     ) -> Result<Receipt, NodeFault>
         ensures asked { IfOk result (λ r. r.entry.ask ≡ ask) }
         ensures given { IfOk result (IsGiven L.config L.seed) }
-        ensures since { IfOk result (λ r. seat.old ≤ r.index) }
-        ensures counted { OnOk result (seat.new ≡ seat.old + 1) }
+        ensures since { IfOk result (λ r. ComesNext seat.old r.index) }
+        ensures counted { IfOk result (λ r. seat.new ≡ called seat.old r.index) }
         ensures refused { IfErr result
             (IsRefused L.config L.seed (ask_value_first L.config.nodes ask)) }
         ensures err { OnErr result (seat.new ≡ seat.old) }

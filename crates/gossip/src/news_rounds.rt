@@ -32,9 +32,9 @@ pub fn gossip_news<L: Label, W: Reach, R: Wait>(
     requires { length paces.old < 2 ^ 32 }
     ensures told { IsTold L.config L.seed seat.old seat.new result }
     ensures few { calls_of result ≤ length paces.old + MOST_TAKEN }
-    ensures round { result.ended ≡ Ended.Done → IsNewsRound L.config L.seed seat.old
+    ensures round { result.ended ≡ Ended.Done → IsNewsRound L.config L.seed seat.old.calls
         (Says W.reached) (W.traffic wire.old) (W.traffic wire.new) paces.old paces.new result }
-    ensures broken { result.ended ≡ Ended.OutOfMemory → IsNewsBroken L.config L.seed seat.old
+    ensures broken { result.ended ≡ Ended.OutOfMemory → IsNewsBroken L.config L.seed seat.old.calls
         (Says W.reached) (W.traffic wire.old) (W.traffic wire.new) paces.old paces.new result }
 {
     let caller = Caller {
@@ -62,9 +62,9 @@ fn round<L: Label, W: Reach, R: Wait>(
     ensures told { IsTold L.config L.seed seat.old seat.new report.new }
     ensures few { calls_of report.new ≤ length paces.old + MOST_TAKEN }
     ensures ended { report.new.ended ≡ report.old.ended }
-    ensures round { OnOk result (IsNewsRound L.config L.seed seat.old (Says W.reached)
+    ensures round { OnOk result (IsNewsRound L.config L.seed seat.old.calls (Says W.reached)
         (W.traffic wire.old) (W.traffic wire.new) paces.old paces.new report.new) }
-    ensures broken { OnErr result (IsNewsBroken L.config L.seed seat.old (Says W.reached)
+    ensures broken { OnErr result (IsNewsBroken L.config L.seed seat.old.calls (Says W.reached)
         (W.traffic wire.old) (W.traffic wire.new) paces.old paces.new report.new) }
 {
     look_at_all(caller, seat, wire, paces, report)?;
@@ -82,10 +82,10 @@ fn look_at_all<L: Label, W: Reach, R: Wait>(
     requires few { length paces.old < 2 ^ 32 }
     requires room { calls_of report.old < 2 ^ 32 }
     ensures few { calls_of report.new ≤ calls_of report.old + length paces.old }
-    ensures looks { OnOk result (Looks L.config L.seed seat.old (Says W.reached)
+    ensures looks { OnOk result (Looks L.config L.seed seat.old.calls (Says W.reached)
         seat.old seat.new (W.traffic wire.old) (W.traffic wire.new) report.old report.new
         paces.old paces.new) }
-    ensures breaks { OnErr result (Breaks L.config L.seed seat.old (Says W.reached)
+    ensures breaks { OnErr result (Breaks L.config L.seed seat.old.calls (Says W.reached)
         seat.old seat.new (W.traffic wire.old) (W.traffic wire.new) report.old report.new
         paces.old paces.new) }
 {
@@ -105,10 +105,10 @@ fn look_at<L: Label, W: Reach, R: Wait>(
 ) -> Result<Pace, AllocError>
     requires { calls_of report.old < 2 ^ 63 }
     ensures few { calls_of report.new ≤ calls_of report.old + 1 }
-    ensures looks { IfOk result (λ after. Looks L.config L.seed seat.old (Says W.reached)
+    ensures looks { IfOk result (λ after. Looks L.config L.seed seat.old.calls (Says W.reached)
         seat.old seat.new (W.traffic wire.old) (W.traffic wire.new) report.old report.new
         (pace ∷ []) (after ∷ [])) }
-    ensures breaks { OnErr result (Breaks L.config L.seed seat.old (Says W.reached)
+    ensures breaks { OnErr result (Breaks L.config L.seed seat.old.calls (Says W.reached)
         seat.old seat.new (W.traffic wire.old) (W.traffic wire.new) report.old report.new
         (pace ∷ []) (pace ∷ [])) }
 {
@@ -128,7 +128,7 @@ fn look_at<L: Label, W: Reach, R: Wait>(
 
 // What there is to tell a peer.
 fn news_for<L: Label, R: Wait>(caller: &Caller<'_, L, R>, seat: &mut Seat<L>, peer: u8) -> News
-    ensures seen { IsSeen L.config L.seed seat.old peer result }
+    ensures seen { IsSeen L.config L.seed seat.old.calls peer result }
     ensures same { seat.new ≡ seat.old }
 {
     caller

@@ -9,6 +9,7 @@ use Rattle.node_calls.specs.Told.{ask_told}
 use Rattle.node_calls.specs.Asks.{ask_value, ask_value_first, reply_value}
 use Rattle.node_registry.specs.Receipts.{IsAnswered}
 use Rattle.node_registry.specs.Receipts as registry
+use Rattle.node_registry.specs.Seats.{IsCalled, SeatState}
 use Rattle.http_replies.specs.Replies.{ReplyValue, IsReply}
 use Rattle.http_routes.specs.Replies.{acceptance_value, refusal_value}
 use Rattle.http_routes.specs.Requests.{WantedValue, IsWanted, call}
@@ -16,15 +17,15 @@ use Rattle.http_routes.specs.Requests as wants
 use Rattle.http_serve.specs.Served.{Comes, IsServed, IsServedFrom}
 
 -- an accepted call is counted and answered so, and a refused one so
-pub called_by : (config : Config) (seed : List ℕ) (had has : ℕ) (ask : Ask) (given : ReplyValue)
+pub called_by : (config : Config) (seed : List ℕ) (had has : SeatState) (ask : Ask) (given : ReplyValue)
     (outcome : Result Reply NodeFault)
     → IfOk outcome (IsAnswered config seed ask)
     → IfErr outcome (registry.IsRefused config seed (ask_value_first config.nodes ask))
-    → OnOk outcome (has ≡ had + 1)
+    → OnOk outcome (IsCalled had has)
     → OnErr outcome (has ≡ had)
     → IfOk outcome (λ reply. (n : ℕ) → given ≡ acceptance_value (reply_value n reply))
     → IfErr outcome (λ f. IsReply (refusal_value f) given)
-    → IsServedFrom config seed had has (call (ask_told ask)) given
+    → IsServedFrom config seed had.calls has.calls (call (ask_told ask)) given
 called_by config seed had has ask given (Ok reply) (r, node, of, answer, accepted) refused more same told why =
     inl (
       record {
@@ -33,10 +34,10 @@ called_by config seed had has ask given (Ok reply) (r, node, of, answer, accepte
         asked = (node, ap (λ (o : Ask). ask_value config.nodes o r.entry.reply) of);
         told = told config.nodes ∙ ap (λ (o : Reply). acceptance_value (reply_value config.nodes o)) (sym answer);
       },
-      more,
+      ap (λ (s : SeatState). s.calls) more.2,
     )
 called_by config seed had has ask given (Err fault) answered refused more same told why =
-    inr (inl (record { fault = fault; refused = refused; told = why }), same)
+    inr (inl (record { fault = fault; refused = refused; told = why }), ap (λ (s : SeatState). s.calls) same)
 
 -- whatever the seat counts
 pub served : (config : Config) (seed : List ℕ) (had has : ℕ) (wanted : WantedValue) (given : ReplyValue) →

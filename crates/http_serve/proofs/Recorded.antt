@@ -9,6 +9,7 @@ use Rattle.node_calls.specs.Asks.{ask_value, ask_value_first, reply_value}
 use Rattle.node_steps.specs.declared.config.Config.{Config}
 use Rattle.node_registry.specs.Receipts.{IsAnswered}
 use Rattle.node_registry.specs.Receipts as registry
+use Rattle.node_registry.specs.Seats.{SeatState}
 use Rattle.part_keeper.specs.Kept.{IsUnanswered}
 use Rattle.part_keeper.specs.Pieces.{Continues, HasLine}
 use Rattle.part_keeper.specs.declared.fault.CallFault.{CallFault}
@@ -54,12 +55,12 @@ was_recorded fault is = let no : ⊥ = cc in no
 is_made : (fault : NodeFault) → faults.Refused fault ≡ faults.RecordingFailed → ⊥
 is_made fault is = let no : ⊥ = cc in no
 
-module _ {W : Type 0} (contents : W → Option (List ℕ)) (old new : W) (was now had has : ℕ) (config : Config)
-    (seed : List ℕ) (keeps : Bool) (seats : ℕ) where
+module _ {W : Type 0} (contents : W → Option (List ℕ)) (old new : W) (was now : ℕ) (had has : SeatState)
+    (config : Config) (seed : List ℕ) (keeps : Bool) (seats : ℕ) where
   -- one that was accepted and written is answered so
   pub written_so : (ask : Ask) (given : ReplyValue) (reply : Reply) → IsAnswered config seed ask reply →
       HasLine contents config seed keeps seats has old new was now ask reply
-      → ((n : ℕ) → given ≡ acceptance_value (reply_value n reply)) → has ≡ had + 1
+      → ((n : ℕ) → given ≡ acceptance_value (reply_value n reply)) → has.calls ≡ had.calls + 1
       → IsServedWriting contents old new was now had has config seed keeps seats (ask_told ask) given
   written_so ask given reply (r, node, of, answer, accepted) line told counted = inl (
     record {
@@ -88,7 +89,7 @@ module _ {W : Type 0} (contents : W → Option (List ℕ)) (old new : W) (was no
   pub written_by : (S : Type 0) (ask : Ask) (given : ReplyValue) (made : Result Reply CallFault)
       → IfOk made (IsAnswered config seed ask)
       → IfOk made (HasLine contents config seed keeps seats has old new was now ask)
-      → OnOk made (has ≡ had + 1)
+      → OnOk made (has.calls ≡ had.calls + 1)
       → IfErr made (IsUnanswered config seed ask)
       → IfErr made (λ fault. (fault ≡ faults.NotRecorded → ⊥) → (has ≡ had) × S)
       → IfOk made (λ reply. (n : ℕ) → given ≡ acceptance_value (reply_value n reply))
@@ -134,8 +135,8 @@ module _ {W : Type 0} (contents : W → Option (List ℕ)) (old new : W) (was no
   as_recording ask given (inr (inr (inr (inr none), same))) = inl (inr none)
 
 -- whatever was written of a spread
-pub as_spread : (written : Type 0) (config : Config) (seed : List ℕ) (keeps : Bool) (seats had has : ℕ) (name : List ℕ)
-    (wanted : SpreadValue) (given : ReplyValue)
+pub as_spread : (written : Type 0) (config : Config) (seed : List ℕ) (keeps : Bool) (seats : ℕ) (had has : SeatState)
+    (name : List ℕ) (wanted : SpreadValue) (given : ReplyValue)
     → (IsSpreadFrom config seed keeps seats had has name wanted given × written)
     ⊎ (IsNotRecorded given ⊎ (IsNotMade given × (has ≡ had)))
     → IsSpreadRecording config seed keeps seats name wanted given

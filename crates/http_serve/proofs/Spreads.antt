@@ -1,11 +1,13 @@
 -- Requests to spread, and any others.
-use Rattle.std.proofs.Common.{◌≡◌, ℕ, Bool, List, [], Option, Some, None, refl, inl, inr, ap, subst, arith}
+use Rattle.std.proofs.Common.{◌≡◌, ℕ, Bool, List, [], Option, Some, None, refl, inl, inr, ap, sym, subst, arith}
 use Rattle.std.specs.Prelude.{MatchOption, if◌then◌else◌, is_some}
 use Rattle.node_steps.specs.declared.config.Config.{Config}
 use Rattle.node_core.specs.Traces.{Kept}
 use Rattle.node_registry.specs.Batches.{GoesOn}
 use Rattle.node_registry.specs.Cells.{new_cell}
+use Rattle.node_registry.specs.Seats.{HasSameCalls, SeatState, new_seat}
 use Rattle.node_registry.proofs.LawfulCells.{new_lawful}
+use Rattle.node_registry.proofs.SameCalls.{batch_as}
 use Rattle.http_paths.specs.Paths.{target_of}
 use Rattle.http_replies.specs.Replies.{ReplyValue}
 use Rattle.http_routes.specs.Requests.{wanted}
@@ -35,20 +37,23 @@ pub served_nowhere : (config : Config) (seed : List ℕ) (keeps : Bool) (seats :
     IsSpreadServed config seed keeps seats name wanted given
 served_nowhere config seed keeps seats name wanted given answered =
     let cell = new_cell config seed in (
-      0,
-      0,
+      new_seat,
+      new_seat,
       record {
         before = cell;
         after = cell;
         asks = [];
-        since = record {
-          lawful = (new_lawful config seed, refl, refl);
-          since = omega arith;
-          alone = λ _. refl;
-          kept = λ _. refl;
-        };
+        since = (
+          record {
+            lawful = (new_lawful config seed, refl, refl);
+            since = omega arith;
+            alone = λ _. refl;
+            kept = λ _. refl;
+          },
+          omega arith,
+        );
         entered = (refl, refl, refl);
-        counted = refl;
+        counted = (refl, refl);
         came = answered cell.node;
       },
     )
@@ -83,14 +88,27 @@ answers_as spread_1 spread_2 answer_1 answer_2 method path body given other name
     (λ name. spread_2 name (spread_wanted method body) given) other named h
 
 -- whatever the seat counts
-pub answered : (config : Config) (seed : List ℕ) (keeps : Bool) (seats had has : ℕ) (method path body : List ℕ)
-    (given : ReplyValue) → AnswersRequestFrom config seed keeps seats had has method path body given
+pub answered : (config : Config) (seed : List ℕ) (keeps : Bool) (seats : ℕ) (had has : SeatState)
+    (method path body : List ℕ) (given : ReplyValue) → AnswersRequestFrom config seed keeps seats had has method path body given
     → AnswersRequest config seed keeps seats method path body given
 answered config seed keeps seats had has method path body given h =
     let asked = wanted method path body in
     answers_as (IsSpreadFrom config seed keeps seats had has) (IsSpreadServed config seed keeps seats)
-    (IsServedFrom config seed had has asked) (IsServed config seed asked) method path body given
-    (served config seed had has asked given) (λ name came. (had, has, came)) h
+    (IsServedFrom config seed had.calls has.calls asked) (IsServed config seed asked) method path body given
+    (served config seed had.calls has.calls asked given) (λ name came. (had, has, came)) h
+
+-- and after it handed calls out
+pub answered_still : (config : Config) (seed : List ℕ) (keeps : Bool) (seats : ℕ) (had has later : SeatState)
+    (method path body : List ℕ) (given : ReplyValue) → HasSameCalls has later
+    → AnswersRequestFrom config seed keeps seats had has method path body given
+    → AnswersRequestFrom config seed keeps seats had later method path body given
+answered_still config seed keeps seats had has later method path body given same h =
+    let asked = wanted method path body in
+    answers_as (IsSpreadFrom config seed keeps seats had has) (IsSpreadFrom config seed keeps seats had later)
+    (IsServedFrom config seed had.calls has.calls asked) (IsServedFrom config seed had.calls later.calls asked)
+    method path body given
+    (subst (λ n. IsServedFrom config seed had.calls n asked given) (sym same.0))
+    (λ name came. batch_as config seed keeps seats had has later _ same came) h
 
 -- what a reply is labelled as
 pub labels_there : (path : List ℕ) (status : ℕ) (name : List ℕ) → Some name ≡ spread_name path →

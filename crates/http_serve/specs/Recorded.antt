@@ -5,6 +5,7 @@ use Rattle.node_calls.specs.declared.reply.Reply.{Reply}
 use Rattle.node_calls.specs.Asks.{reply_value}
 use Rattle.node_calls.specs.Told.{AskTold, ask_told}
 use Rattle.node_steps.specs.declared.config.Config.{Config}
+use Rattle.node_registry.specs.Seats.{SeatState}
 use Rattle.http_replies.specs.Replies.{ReplyValue, IsReply, no_memory, text_reply}
 use Rattle.http_routes.specs.Replies.{acceptance_value, refusal_value}
 use Rattle.http_routes.specs.Requests.{WantedValue, wanted}
@@ -41,21 +42,21 @@ IsServedRecording config seed wanted given = IsServed config seed wanted given
 -- a writer that had the lines of so many calls was given the line of a call with this ask, at its number, and this is
 -- the reply to that call
 pub record IsWritten {W : Type 0} (contents : W → Option (List ℕ)) (old new : W) (was now : ℕ) (config : Config)
-    (seed : List ℕ) (keeps : Bool) (seats calls : ℕ) (ask : AskTold) (given : ReplyValue) : Type 0 where
+    (seed : List ℕ) (keeps : Bool) (seats : ℕ) (seat : SeatState) (ask : AskTold) (given : ReplyValue) : Type 0 where
   pub made : Ask
   pub reply : Reply
   pub asked : ask_told made ≡ ask
-  pub line : HasLine contents config seed keeps seats calls old new was now made reply
+  pub line : HasLine contents config seed keeps seats seat old new was now made reply
   pub told : given ≡ acceptance_value (reply_value config.nodes reply)
 
--- A call is answered as an accepted one only where its line was written, and then it is counted once to the seat that
--- had made so many calls. Else it couldn't be recorded; or the node refuses it, it isn't made any more, or memory was
--- refused before it was made: then none was
-abbrev pub IsServedWriting : {W : Type 0} → (W → Option (List ℕ)) → W → W → ℕ → ℕ → ℕ → ℕ → Config → List ℕ → Bool → ℕ →
-    AskTold → ReplyValue → Type 0
+-- A call is answered as an accepted one only where its line was written, and then it is counted once to the seat. Else
+-- it couldn't be recorded; or the node refuses it, it isn't made any more, or memory was refused before it was made: then
+-- none was
+abbrev pub IsServedWriting : {W : Type 0} → (W → Option (List ℕ)) → W → W → ℕ → ℕ → SeatState → SeatState → Config → List ℕ →
+    Bool → ℕ → AskTold → ReplyValue → Type 0
 IsServedWriting contents old new was now had has config seed keeps seats ask given =
     (IsMade config seed ask given × IsWritten contents old new was now config seed keeps seats has ask given
-    × (has ≡ had + 1))
+    × (has.calls ≡ had.calls + 1))
     ⊎ (IsNotRecorded given
     ⊎ ((IsRefused config seed ask given ⊎ (IsNotMade given ⊎ (given ≡ no_memory))) × (has ≡ had)))
 
@@ -65,9 +66,9 @@ IsSpreadRecording config seed keeps seats name wanted given =
     IsSpreadServed config seed keeps seats name wanted given ⊎ IsUnrecorded given
 
 -- What is wanted of a spread is answered only where the lines of its calls were written, each of which is counted to the
--- seat that had made so many. Else they couldn't be recorded; or none is made any more, and then none was
-abbrev pub IsSpreadWriting : {W : Type 0} → (W → Option (List ℕ)) → W → W → ℕ → ℕ → ℕ → ℕ → Config → List ℕ → Bool → ℕ →
-    List ℕ → SpreadValue → ReplyValue → Type 0
+-- seat. Else they couldn't be recorded; or none is made any more, and then none was
+abbrev pub IsSpreadWriting : {W : Type 0} → (W → Option (List ℕ)) → W → W → ℕ → ℕ → SeatState → SeatState → Config → List ℕ →
+    Bool → ℕ → List ℕ → SpreadValue → ReplyValue → Type 0
 IsSpreadWriting contents old new was now had has config seed keeps seats name wanted given =
     (IsSpreadFrom config seed keeps seats had has name wanted given
     × Continues contents config seed keeps seats has old new was now)

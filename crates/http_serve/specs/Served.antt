@@ -48,7 +48,7 @@ Comes config seed (wants.answered reply) given = IsReply reply given
 abbrev pub IsServed : Config → List ℕ → WantedValue → ReplyValue → Type 0
 IsServed config seed wanted given = Comes config seed wanted given ⊎ (given ≡ no_memory)
 
--- the same from a seat, with the calls that it had made and that it has made then: an accepted call is counted, and is
+-- the same from a seat, with how many calls it had made and has made then: an accepted call is counted, and is
 -- answered as one, always; where there is another reply, no call was made
 abbrev pub IsServedFrom : Config → List ℕ → ℕ → ℕ → WantedValue → ReplyValue → Type 0
 IsServedFrom config seed had has (wants.call ask) given =

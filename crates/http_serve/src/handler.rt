@@ -123,7 +123,7 @@ impl<L: Label> NodeReader<L> {
         path: &str,
         body: Vec<u8>,
     ) -> HttpReply
-        ensures { IsServedFrom L.config L.seed seat.old seat.new
+        ensures { IsServedFrom L.config L.seed seat.old.calls seat.new.calls
             (wanted method.now path.now body.items) (http_value result) }
     {
         match route_owned(alloc, &self.routes, method, path, body) {
@@ -136,7 +136,7 @@ impl<L: Label> NodeReader<L> {
     }
 
     fn call<R: Wait>(&self, rt: &R, alloc: Global, seat: &mut Seat<L>, ask: Ask) -> HttpReply
-        ensures { IsServedFrom L.config L.seed seat.old seat.new
+        ensures { IsServedFrom L.config L.seed seat.old.calls seat.new.calls
             (requests.call (ask_told ask)) (http_value result) }
     {
         let Ok(room) = ReplyRoom::new(alloc) else {

@@ -1,5 +1,7 @@
 -- A cell whose node accepts calls without random draws stays lawful.
-use Rattle.std.proofs.Common.{◌≡◌, ◌+◌, ◌<◌, ◌^◌, List, [], ◌∷◌, ◌++◌, length, None, sym, ap, subst, arith, length-append}
+use Rattle.std.proofs.Common.{◌≡◌, ℕ, zero, suc, ◌+◌, ◌<◌, ◌^◌, ◌==◌, List, [], ◌∷◌, ◌++◌, length, None, refl, sym, ap, subst, arith, length-append}
+use Rattle.std.specs.Prelude.{if◌then◌else◌}
+use Rattle.std.proofs.Math.Dec.{eqb-suc-zero}
 use Rattle.rand_chacha.specs.ChaCha.{ChaCha}
 use Rattle.node_calls.specs.Asks.{Asked}
 use Rattle.node_core.specs.Traces.{Kept, SendsDelta, after_call, entry_for, node_of, refusal}
@@ -48,3 +50,11 @@ accepted_length k (ask ∷ asks) new made =
     let one : length (k.trace ++ entry_for k ask [] ∷ []) ≡ length k.trace + 1 = length-append k.trace _ in
     let rest = accepted_length (after_call k ask []) asks new made.3 in
     omega arith
+
+-- the number after the last of so many calls, of which there may be none
+pub next_as_ever : (more old all : ℕ) → more ≡ 0 → old ≡ (if more == 0 then old else all)
+next_as_ever more old all none = sym (ap (λ n. if n == 0 then old else all) none)
+
+pub next_at_end : (more old all : ℕ) → (more ≡ 0 → ⊥) → all ≡ (if more == 0 then old else all)
+next_at_end zero old all some = absurd (some refl)
+next_at_end (suc n) old all some = sym (ap (λ b. if b then old else all) (eqb-suc-zero n))

@@ -1,6 +1,6 @@
 -- What a call under a lock says once the lock is let go.
-use Rattle.std.proofs.Common.{◌≡◌, ℕ, ◌≤◌, List, length, Result, Ok, Err, inl, refl, ap, ◌∙◌, subst, arith}
-use Rattle.std.specs.Prelude.{IfOk, IfErr, OnOk}
+use Rattle.std.proofs.Common.{◌≡◌, ℕ, List, Result, Ok, Err, inl, refl, ap, ◌∙◌, subst}
+use Rattle.std.specs.Prelude.{IfOk, IfErr}
 use Rattle.std.specs.Result.{IsErrAnd}
 use Rattle.std.proofs.lemmas.Result.{err_from_is_err_and}
 use Rattle.node_calls.specs.declared.ask.Ask.{Ask}
@@ -40,13 +40,6 @@ module _ (config : Config) (seed : List ℕ) (c : Cell) (lawful : IsLawfulAt con
       IfOk r (λ x. x.node ≡ config.node)
   is_of_node (Ok x) is = ap (λ (y : Receipt). y.node) is ∙ ap (λ (k : Config). k.node) lawful.1
   is_of_node (Err f) is = tt
-
--- a receipt's index is at least the calls that its seat had made
-pub is_since : (c : Cell) (calls : ℕ) (r : Result Receipt NodeFault) → IfOk r (λ x. x ≡ receipt_of c x.entry) →
-    OnOk r (calls ≤ length c.node.trace) → IfOk r (λ x. calls ≤ x.index)
-is_since c calls (Ok x) is since = let index : x.index ≡ length c.node.trace = ap (λ (y : Receipt). y.index) is in
-    omega arith
-is_since c calls (Err f) is since = tt
 
 -- out of memory before the lock is taken: any lawful cell may answer that, as a new one
 pub memory_refused : {T : Type 0} (config : Config) (seed : List ℕ) (ask : Asked) (r : Result T NodeFault) →

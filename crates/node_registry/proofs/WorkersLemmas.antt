@@ -11,6 +11,7 @@ use Rattle.node_calls.specs.declared.receipt.Receipt.{Receipt}
 use Rattle.node_calls.specs.Asks.{ask_value_first}
 use Rattle.node_registry.specs.Receipts.{IsRefused}
 use Rattle.node_registry.specs.Refusals.{Refusal}
+use Rattle.node_registry.specs.Seats.{SeatState}
 use Rattle.node_registry.specs.Workers.{AllNumbered, AreAnswered, IsDone}
 use Rattle.node_registry.specs.Workers as workers
 
@@ -120,9 +121,9 @@ finished_numbered R n ts whole ws so_far none =
     (subst (λ ys. AllNumbered R n ys []) (sym none) tt))
 
 -- what a worker hands back, by its thread or without one
-pub through_worker : {H D G : Type 0} (Q : ℕ → G → ℕ → List Ask → D → Type 0) (number : H → ℕ) (gate : H → G)
-    (had : H → ℕ) (made : H → List Ask)
-    (n : ℕ) (x : G) (was : ℕ) (asks : List Ask) (w : Result H D) (d : D)
+pub through_worker : {H D G : Type 0} (Q : ℕ → G → SeatState → List Ask → D → Type 0) (number : H → ℕ) (gate : H → G)
+    (had : H → SeatState) (made : H → List Ask)
+    (n : ℕ) (x : G) (was : SeatState) (asks : List Ask) (w : Result H D) (d : D)
     → MatchResult w (λ h. (number h ≡ n) × (gate h ≡ x) × (had h ≡ was) × (made h ≡ asks)) (λ e. Q n x was asks e)
     → MatchResult w (λ h. Q (number h) (gate h) (had h) (made h) d) (λ e. d ≡ e) → Q n x was asks d
 through_worker Q number gate had made n x was asks (Ok h) d is done =

@@ -1,9 +1,10 @@
 -- Several calls that nothing comes between.
-use Rattle.std.specs.Prelude.{◌≡◌, ℕ, ◌+◌, Bool, List, [], ◌∷◌, length, None}
+use Rattle.std.specs.Prelude.{◌≡◌, ℕ, Bool, List, [], ◌∷◌, length, None}
 use Rattle.node_steps.specs.declared.config.Config.{Config}
 use Rattle.node_calls.specs.Asks.{Asked}
 use Rattle.node_core.specs.Traces.{Kept, SendsDelta, after_call, node_of, refusal}
 use Rattle.node_registry.specs.Cells.{Cell, IsCellSince}
+use Rattle.node_registry.specs.Seats.{AreCalled, SeatState}
 use Rattle.node_registry.specs.Words.{words_taken}
 
 -- a node accepts these calls in turn, none of which takes random draws, and is then the second one
@@ -21,14 +22,14 @@ GoesOn k new = (asks : List Asked) × AreAccepted k asks new
 abbrev pub AreEntered : Cell → List Asked → Cell → Type 0
 AreEntered c asks d = AreAccepted c.node asks d.node × (d.key ≡ c.key) × (d.place ≡ c.place)
 
--- some lawful cell of the node accepted calls in turn, each of which was counted to the seat that had made so many, and
--- this came of them
-pub record IsBatch (config : Config) (seed : List ℕ) (keeps : Bool) (seats had has : ℕ) (comes : Kept → Kept → Type 0) :
-    Type 0 where
+-- some lawful cell of the node that has the calls of a seat accepted calls in turn, each of which was counted to the
+-- seat, and this came of them
+pub record IsBatch (config : Config) (seed : List ℕ) (keeps : Bool) (seats : ℕ) (had has : SeatState)
+    (comes : Kept → Kept → Type 0) : Type 0 where
   pub before : Cell
   pub after : Cell
   pub asks : List Asked
   pub since : IsCellSince config seed keeps seats had before
   pub entered : AreEntered before asks after
-  pub counted : has ≡ had + length asks
+  pub counted : AreCalled had (length asks) (length after.node.trace) has
   pub came : comes before.node after.node

@@ -13,6 +13,7 @@ use Rattle.node_steps.specs.Nodes.{max_trace_cap}
 use Rattle.node_steps.specs.Passes.{pass_reply}
 use Rattle.node_core.specs.Traces.{Kept, IsLegal, IsRefusalOf, Records, after_call, call_of, new_kept, refusal, state_known, without_kept}
 use Rattle.node_steps.specs.Words.{words_from}
+use Rattle.node_registry.specs.Seats.{SeatState}
 use Rattle.node_registry.specs.Words.{words_of, words_taken}
 
 -- the node; the key of its generator, whose stream is that of the node's number; and the place of the
@@ -74,13 +75,18 @@ pub record IsLawful (c : Cell) : Type 0 where
 abbrev pub IsLawfulAt : Config → List ℕ → Cell → Type 0
 IsLawfulAt config seed c = IsLawful c × (c.node.config ≡ config) × (c.key ≡ key_of seed)
 
--- a lawful cell of the node that has the calls of a seat, and no others where that is the only one of so many, and
--- that keeps all its calls where its registry does
-pub record IsCellSince (config : Config) (seed : List ℕ) (keeps : Bool) (seats calls : ℕ) (c : Cell) : Type 0 where
+-- a lawful cell of the node that has as many calls as a seat made, and no others where that is the only one of so many,
+-- and that keeps all its calls where its registry does
+pub record IsCellOf (config : Config) (seed : List ℕ) (keeps : Bool) (seats : ℕ) (seat : SeatState) (c : Cell) :
+    Type 0 where
   pub lawful : IsLawfulAt config seed c
-  pub since : calls ≤ length c.node.trace
-  pub alone : seats ≡ 1 → calls ≡ length c.node.trace
+  pub since : seat.calls ≤ length c.node.trace
+  pub alone : seats ≡ 1 → seat.calls ≡ length c.node.trace
   pub kept : keeps ≡ true → c.node.from ≡ 0
+
+-- such a cell that has the seat's last call
+abbrev pub IsCellSince : Config → List ℕ → Bool → ℕ → SeatState → Cell → Type 0
+IsCellSince config seed keeps seats seat c = IsCellOf config seed keeps seats seat c × (seat.next ≤ length c.node.trace)
 
 -- the random draws of a trace are the first ones of this seed, on the stream of the node's number
 abbrev pub IsDrawnBy : Config → List ℕ → List Call → Type 0

@@ -1,4 +1,5 @@
 pub mod Words
+pub mod Seats
 pub mod Cells
 pub mod Receipts
 pub mod Pieces

@@ -1,5 +1,5 @@
 -- What a caller is told.
-use Rattle.std.specs.Prelude.{◌≡◌, ◌≤◌, ◌<◌, ◌⊎◌, ℕ, ◌+◌, List, [], ◌∷◌, length, Some}
+use Rattle.std.specs.Prelude.{◌≡◌, ◌≤◌, ◌<◌, ◌⊎◌, ℕ, List, [], ◌∷◌, length, Some}
 use Rattle.node_calls.specs.declared.ask.Ask.{Ask}
 use Rattle.node_steps.specs.declared.config.Config.{Config}
 use Rattle.node_calls.specs.declared.fault.NodeFault.{NodeFault}
@@ -13,6 +13,7 @@ use Rattle.node_registry.specs.declared.pass_receipt.PassOutcome.{PassOutcome}
 use Rattle.node_registry.specs.declared.pass_receipt.PassOutcome.TheVariants as outcomes
 use Rattle.node_registry.specs.declared.pass_receipt.PassReceipt.{PassReceipt}
 use Rattle.node_registry.specs.Cells.{Cell, Enters, IsLawfulAt, IsRefusedBy, Passes, next_passed}
+use Rattle.node_registry.specs.Seats.{ComesNext, SeatState, called}
 
 -- an entry is of this ask, to the byte, in a cluster of so many nodes
 pub record IsEntryFor (nodes : ℕ) (ask : Ask) (e : Entry) : Type 0 where
@@ -69,9 +70,14 @@ IsAnswered config seed ask reply =
 abbrev pub IsRefused : Config → List ℕ → Asked → NodeFault → Type 0
 IsRefused config seed ask fault = (c : Cell) × IsLawfulAt config seed c × IsRefusedBy c ask fault
 
--- receipts that the node gave a seat that had made so many calls: the next call's first, and each of an
--- entry behind as many as the seat had made calls
-abbrev pub AreGivenSince : Config → List ℕ → ℕ → List Receipt → Type 0
-AreGivenSince config seed calls [] = Unit {0}
-AreGivenSince config seed calls (r ∷ rs) =
-    IsGiven config seed r × (calls ≤ r.index) × AreGivenSince config seed (calls + 1) rs
+-- receipts that the node gave a seat, the first one first: each lies behind the one before it, and behind as many calls
+-- as the seat had made then
+abbrev pub AreGivenSince : Config → List ℕ → SeatState → List Receipt → Type 0
+AreGivenSince config seed seat [] = Unit {0}
+AreGivenSince config seed seat (r ∷ rs) =
+    IsGiven config seed r × ComesNext seat r.index × AreGivenSince config seed (called seat r.index) rs
+
+-- the seat after the calls of these receipts
+abbrev pub seat_after : SeatState → List Receipt → SeatState
+seat_after seat [] = seat
+seat_after seat (r ∷ rs) = seat_after (called seat r.index) rs

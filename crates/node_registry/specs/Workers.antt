@@ -1,12 +1,13 @@
 -- What workers hand back.
-use Rattle.std.specs.Prelude.{◌≡◌, ℕ, ◌+◌, Bool, true, false, List, [], ◌∷◌, length, MatchBool}
+use Rattle.std.specs.Prelude.{◌≡◌, ℕ, ◌+◌, Bool, true, false, List, [], ◌∷◌, MatchBool}
 use Rattle.node_steps.specs.declared.config.Config.{Config}
 use Rattle.node_calls.specs.declared.ask.Ask.{Ask}
 use Rattle.node_calls.specs.declared.fault.NodeFault.{NodeFault}
 use Rattle.node_calls.specs.declared.receipt.Receipt.{Receipt}
 use Rattle.node_calls.specs.Asks.{ask_value_first}
-use Rattle.node_registry.specs.Receipts.{AreGivenSince, IsRefused}
+use Rattle.node_registry.specs.Receipts.{AreGivenSince, IsRefused, seat_after}
 use Rattle.node_registry.specs.Refusals.{Refusal}
+use Rattle.node_registry.specs.Seats.{SeatState}
 use Rattle.node_registry.specs.declared.workers.Done.{Done}
 
 -- How asks were answered, the first of which has this number: the gate said that each may be made, and heard that it
@@ -26,13 +27,13 @@ pub data AreAnswered (config : Config) (seed : List ℕ) (says : ℕ → Bool �
       → AreAnswered config seed says hears (n + 1) asks receipts faults refusals
       → AreAnswered config seed says hears n (ask ∷ asks) receipts ((n, fault) ∷ faults) ((ask, fault) ∷ refusals)
 
--- what a worker hands back that was to make these asks from a seat that had made so many calls: the seat made as many
--- more as there are receipts, which the node gave it since; these and the faults answer the asks, or the worker didn't
--- start, and there are none
+-- what a worker hands back that was to make these asks from a seat: the receipts are those of the calls that the seat
+-- made since, which the node gave it; these and the faults answer the asks, or the worker didn't start, and there are
+-- none
 pub record IsDone {L : Type 0} (config : Config) (seed : List ℕ) (says : ℕ → Bool → Type 0) (hears : ℕ → Type 0)
-    (was : ℕ) (asks : List Ask)
+    (was : SeatState) (asks : List Ask)
     (done : Done L) : Type 0 where
-  pub counted : done.seat ≡ was + length done.receipts.items
+  pub counted : done.seat ≡ seat_after was done.receipts.items
   pub given : AreGivenSince config seed was done.receipts.items
   pub answered : MatchBool done.started
       (AreAnswered config seed says hears 0 asks done.receipts.items done.faults.items done.refusals)

@@ -1,18 +1,22 @@
 //! What lies under a registry's lock, and the seats from which it is called.
 
-ghost use Rattle.std.specs.Prelude.{◌≡◌, ℕ, ◌+◌, ◌≤◌, ◌<◌, ◌⊎◌, List, drop, length, map, sum};
+ghost use Rattle.std.specs.Prelude.{◌≡◌, ℕ, ◌+◌, ◌*◌, ◌≤◌, ◌<◌, ◌⊎◌, List, drop, length, map};
 ghost use Rattle.std.specs.Prelude.{vec_len, All};
-ghost use Rattle.std.specs.Prelude.{IfOk, IfErr, OnErr, OnOk, MatchOption, IsTrue, true, false};
+ghost use Rattle.std.specs.Prelude.{IfOk, IfErr, IfNone, IfSome, OnErr, OnOk, OnSome};
+ghost use Rattle.std.specs.Prelude.{MatchOption, IsTrue, true, false};
 ghost use Rattle.rand_chacha.specs.ChaCha.{key_of};
 ghost use Rattle.node_calls.specs.Asks as asks;
 ghost use Rattle.node_calls.specs.Asks.{Asked, ask_value_first, call_from};
+ghost use Rattle.node_steps.specs.Nodes.{max_trace_cap};
 ghost use Rattle.node_steps.specs.Refusals.{is_bad_config};
 ghost use Rattle.node_registry.specs.Batches.{AreEntered};
-ghost use Rattle.node_registry.specs.Cells.{Cell, Enters, IsCellSince, IsLawfulAt, IsRefusedBy};
+ghost use Rattle.node_registry.specs.Cells.{Cell, Enters, IsCellOf, IsLawfulAt, IsRefusedBy};
 ghost use Rattle.node_registry.specs.Cells.{Passes, Submits, cell_without_kept, new_cell};
 ghost use Rattle.node_registry.specs.Pieces.{IsAllLeft, IsLeft, IsPieceOf};
 ghost use Rattle.node_registry.specs.Receipts.{IsEntryFor, IsNoneAt, IsReceiptAt, pass_receipt_of};
 ghost use Rattle.node_registry.specs.Receipts.{receipt_of};
+ghost use Rattle.node_registry.specs.Seats.{AreCalled, SeatState, amount_of, called, calls_from};
+ghost use Rattle.node_registry.specs.Seats.{gave, given_by, new_seat};
 
 use crate::batch::Batch;
 use crate::cell::NodeCell;
@@ -24,33 +28,54 @@ use std::alloc::{AllocError, Global};
 use std::marker::Model;
 use std::sync::ledger::{Blank, Book, Share};
 
-/// The right to call a registry, with the number of the calls that were accepted from it. Contracts
-/// see a seat as that number.
+/// What the ledger counts for a call. The calls that all seats handed out are fewer, so the ledger's
+/// total has both numbers.
+const CALL: u64 = u64::MAX;
+
+/// The right to call a registry. A seat counts the calls that were accepted from it and the calls
+/// that it handed out, and has the number after that of its last call.
 #[derive(Drop)]
 pub struct Seat<L: Label> {
     calls: u64,
+    given: u64,
+    next: u64,
     share: Share<L>,
 }
 
 impl<L: Label> Model for Seat<L> {
-    ghost Value = { ℕ };
+    ghost Value = { SeatState };
 
-    ghost view = { λ s. s.calls };
+    ghost view = { λ s. record { calls = s.calls; given = s.given; next = s.next } };
 
-    ghost invariant = { λ s. (s.share.amount ≡ s.calls) × (s.share.parts ≡ 1) };
+    ghost invariant = { λ s. (s.share.amount ≡ amount_of s.calls s.given) × (s.share.parts ≡ 1)
+        × (s.given ≤ max_trace_cap) };
 }
 
 impl<L: Label> Seat<L> {
     /// How many calls were accepted from this seat.
     pub fn calls(&self) -> u64
-        ensures { result ≡ self.now }
+        ensures { result ≡ self.now.calls }
     {
         self.calls
+    }
+
+    /// How many calls of the node's trace this seat handed out.
+    pub fn given(&self) -> u64
+        ensures { result ≡ self.now.given }
+    {
+        self.given
+    }
+
+    /// The number after that of the last call that was accepted from this seat, 0 before there is one.
+    pub fn next(&self) -> u64
+        ensures { result ≡ self.now.next }
+    {
+        self.next
     }
 }
 
 /// What lies under a registry's lock: a node with its generator, and the book of the calls that its
-/// seats made. Contracts see it as the node with its generator.
+/// seats made and handed out. Contracts see it as the node with its generator.
 #[derive(Drop)]
 pub struct Guarded<L: Label> {
     cell: NodeCell,
@@ -62,9 +87,10 @@ impl<L: Label> Model for Guarded<L> {
 
     ghost view = { λ g. g.cell };
 
-    ghost invariant = { λ g. (g.book.total ≡ length g.cell.node.trace)
+    ghost invariant = { λ g.
+        (g.book.total ≡ amount_of (length g.cell.node.trace) g.cell.node.from)
         × (g.cell.node.config ≡ L.config) × (g.cell.key ≡ key_of L.seed)
-        × (L.keeps ≡ true → g.cell.node.from ≡ 0) };
+        × (L.keeps ≡ true → g.cell.node.from ≡ 0) × (L.parts < 256) };
 }
 
 /// A piece of a node's trace: the number of its first call, counted from 0, and the calls from there
@@ -99,7 +125,7 @@ impl<L: Label> Guarded<L> {
         requires seed { seed ≡ L.seed }
         ensures ok { IfOk result (λ r. r.0 ≡ new_cell config seed) }
         ensures seats { IfOk result (λ r.
-            (vec_len r.1 ≡ seats) × All (λ calls. calls ≡ 0) r.1.items) }
+            (vec_len r.1 ≡ seats) × All (λ seat. seat ≡ new_seat) r.1.items) }
         ensures good { OnOk result (is_bad_config config ≡ false) }
         ensures err { IfErr result (λ f. (f ≡ NodeFault.OutOfMemory)
             ⊎ ((f ≡ NodeFault.BadConfig) × IsTrue (is_bad_config config))) }
@@ -128,8 +154,8 @@ impl<L: Label> Guarded<L> {
         ensures asked { IfOk result (λ r. IsEntryFor self.old.node.config.nodes ask.now r.entry) }
         ensures ok { IfOk result (λ r. Enters self.old self.new r.entry) }
         ensures receipt { IfOk result (λ r. r ≡ receipt_of self.old r.entry) }
-        ensures counted { OnOk result (seat.new ≡ seat.old + 1) }
-        ensures since { OnOk result (seat.old ≤ length self.old.node.trace) }
+        ensures counted { OnOk result (seat.new ≡ called seat.old (length self.old.node.trace)) }
+        ensures since { OnOk result (seat.old.calls ≤ length self.old.node.trace) }
         ensures refused { IfErr result
             (IsRefusedBy self.old (ask_value_first self.old.node.config.nodes ask.now)) }
         ensures err { OnErr result ((self.new ≡ self.old) × (seat.new ≡ seat.old)) }
@@ -148,22 +174,30 @@ impl<L: Label> Guarded<L> {
         ensures asked { IfOk result (λ r. r.entry.ask ≡ ask) }
         ensures ok { IfOk result (λ r. Enters self.old self.new r.entry) }
         ensures receipt { IfOk result (λ r. r ≡ receipt_of self.old r.entry) }
-        ensures counted { OnOk result (seat.new ≡ seat.old + 1) }
-        ensures since { OnOk result (seat.old ≤ length self.old.node.trace) }
+        ensures counted { OnOk result (seat.new ≡ called seat.old (length self.old.node.trace)) }
+        ensures since { OnOk result (seat.old.calls ≤ length self.old.node.trace) }
         ensures lawful { IsLawfulAt L.config L.seed self.old }
         ensures refused { IfErr result
             (IsRefusedBy self.old (ask_value_first self.old.node.config.nodes ask)) }
         ensures err { OnErr result ((self.new ≡ self.old) × (seat.new ≡ seat.old)) }
     {
         let Guarded { cell, book } = self;
-        let Seat { calls, share } = seat;
+        let Seat {
+            calls,
+            given: _,
+            next,
+            share,
+        } = seat;
         book.audit(share);
         let core = cell.core();
         let node = core.config().node;
         let index = core.calls();
+        // The call says that no more calls were handed out than there are, and nothing else is wanted.
+        let _ = core.from();
         let entry = cell.enter_owned(alloc, ask)?;
-        book.add(share, 1);
+        book.add(share, CALL);
         *calls += 1;
+        *next = index + 1;
         Ok(Receipt { node, index, entry })
     }
 
@@ -175,21 +209,29 @@ impl<L: Label> Guarded<L> {
         ask: Ask,
     ) -> Result<Reply, NodeFault>
         ensures ok { IfOk result (λ r. Submits self.old self.new ask r) }
-        ensures counted { OnOk result (seat.new ≡ seat.old + 1) }
-        ensures since { OnOk result (seat.old ≤ length self.old.node.trace) }
+        ensures counted { OnOk result (seat.new ≡ called seat.old (length self.old.node.trace)) }
+        ensures since { OnOk result (seat.old.calls ≤ length self.old.node.trace) }
         ensures lawful { IsLawfulAt L.config L.seed self.old }
         ensures refused { IfErr result
             (IsRefusedBy self.old (ask_value_first self.old.node.config.nodes ask)) }
         ensures err { OnErr result ((self.new ≡ self.old) × (seat.new ≡ seat.old)) }
     {
         let Guarded { cell, book: ledger } = self;
-        let Seat { calls, share } = seat;
+        let Seat {
+            calls,
+            given: _,
+            next,
+            share,
+        } = seat;
         ledger.audit(share);
-        // The call says that the cell is lawful, and nothing else is wanted of it.
-        let _ = cell.core();
+        let core = cell.core();
+        let number = core.calls();
+        // The call says that no more calls were handed out than there are, and nothing else is wanted.
+        let _ = core.from();
         let reply = cell.submit(alloc, ask)?;
-        ledger.add(share, 1);
+        ledger.add(share, CALL);
         *calls += 1;
+        *next = number + 1;
         Ok(reply)
     }
 
@@ -202,21 +244,29 @@ impl<L: Label> Guarded<L> {
     ) -> Result<PassReceipt, NodeFault>
         ensures ok { OnOk result (Passes self.old self.new point.now) }
         ensures receipt { IfOk result (λ r. r ≡ pass_receipt_of self.old point.now) }
-        ensures counted { OnOk result (seat.new ≡ seat.old + 1) }
-        ensures since { OnOk result (seat.old ≤ length self.old.node.trace) }
+        ensures counted { OnOk result (seat.new ≡ called seat.old (length self.old.node.trace)) }
+        ensures since { OnOk result (seat.old.calls ≤ length self.old.node.trace) }
         ensures lawful { IsLawfulAt L.config L.seed self.old }
         ensures refused { IfErr result (IsRefusedBy self.old (asks.Pass point.now)) }
         ensures err { OnErr result ((self.new ≡ self.old) × (seat.new ≡ seat.old)) }
     {
         let Guarded { cell, book: tally } = self;
-        let Seat { calls, share } = seat;
+        let Seat {
+            calls,
+            given: _,
+            next,
+            share,
+        } = seat;
         tally.audit(share);
         let core = cell.core();
         let node = core.config().node;
         let place = core.calls();
+        // The call says that no more calls were handed out than there are, and nothing else is wanted.
+        let _ = core.from();
         let outcome = cell.pass_point(alloc, point)?;
-        tally.add(share, 1);
+        tally.add(share, CALL);
         *calls += 1;
+        *next = place + 1;
         Ok(PassReceipt {
             node,
             index: place,
@@ -232,18 +282,28 @@ impl<L: Label> Guarded<L> {
         batch: &mut B,
     ) -> T
         ensures entered { (asks : List Asked) × AreEntered self.old asks self.new
-            × (seat.new ≡ seat.old + length asks) }
+            × AreCalled seat.old (length asks) (length self.new.node.trace) seat.new }
+        ensures given { seat.new.given ≡ seat.old.given }
         ensures comes { B.comes batch.old batch.new self.old.node self.new.node result }
-        ensures since { IsCellSince L.config L.seed L.keeps L.parts seat.old self.old }
+        ensures since { IsCellOf L.config L.seed L.keeps L.parts seat.old self.old }
     {
         self.audit(seat);
         let Guarded { cell, book: sums } = self;
-        let Seat { calls, share } = seat;
+        let Seat {
+            calls,
+            given: _,
+            next,
+            share,
+        } = seat;
         let before = cell.core().calls();
         let answer = cell.make_batch(alloc, batch);
-        let more = cell.core().calls() - before;
-        sums.add(share, more);
+        let after = cell.core().calls();
+        let more = after - before;
+        add_calls(sums, share, more);
         *calls += more;
+        if more != 0 {
+            *next = after;
+        }
         answer
     }
 
@@ -258,7 +318,7 @@ impl<L: Label> Guarded<L> {
     ) -> Result<Option<Receipt>, AllocError>
         ensures found { IfOk result (λ found.
             MatchOption found (IsNoneAt self.old index) (IsReceiptAt self.old index)) }
-        ensures since { IsCellSince L.config L.seed L.keeps L.parts seat.old self.old }
+        ensures since { IsCellOf L.config L.seed L.keeps L.parts seat.old self.old }
         ensures same { (self.new ≡ self.old) × (seat.new ≡ seat.old) }
     {
         self.audit(seat);
@@ -271,47 +331,80 @@ impl<L: Label> Guarded<L> {
         Ok(Some(Receipt { node, index, entry }))
     }
 
-    /// Changes nothing, and says that the node has the seat's calls.
+    /// Changes nothing, and says that the node has the seat's calls. If it is the only seat, just the
+    /// calls that it handed out are no longer kept.
     pub fn audit(&mut self, seat: &mut Seat<L>)
-        ensures since { IsCellSince L.config L.seed L.keeps L.parts seat.old self.old }
+        ensures since { IsCellOf L.config L.seed L.keeps L.parts seat.old self.old }
+        ensures alone { L.parts ≡ 1 → seat.old.given ≡ self.old.node.from }
         ensures same { (self.new ≡ self.old) × (seat.new ≡ seat.old) }
     {
         let Guarded {
             cell,
             book: account,
         } = self;
-        let Seat { calls: _, share } = seat;
+        let Seat {
+            calls: _,
+            given: _,
+            next: _,
+            share,
+        } = seat;
         account.audit(share);
-        // The call says that the cell is lawful, and nothing else is wanted of it.
-        let _ = cell.core();
+        // The calls say that the cell is lawful, and that no more of its calls were handed out than
+        // there are. Nothing else is wanted of them.
+        let _ = cell.core().from();
     }
 
-    /// Hands out the calls that the node keeps, and keeps none. Numbers of calls stay what they are.
-    pub fn give(&mut self, alloc: Global, seat: &mut Seat<L>) -> Piece
+    /// Hands out the calls that the node keeps, keeps none, and counts them to the seat. Numbers of
+    /// calls stay what they are. None where the seat handed out more than the node no longer keeps,
+    /// and nothing is changed: so it is with no seat of a registry, but the ledger of its seats alone
+    /// doesn't say so.
+    pub fn give(&mut self, alloc: Global, seat: &mut Seat<L>) -> Option<Piece>
         requires { L.keeps ≡ false }
-        ensures cell { self.new ≡ cell_without_kept self.old }
-        ensures piece { IsPieceOf self.old result }
-        ensures since { IsCellSince L.config L.seed L.keeps L.parts seat.old self.old }
-        ensures same { seat.new ≡ seat.old }
+        ensures cell { OnSome result (self.new ≡ cell_without_kept self.old) }
+        ensures piece { IfSome result (IsPieceOf self.old) }
+        ensures counted { IfSome result (λ p. seat.new ≡ gave seat.old (length p.trace.calls)) }
+        ensures since { IsCellOf L.config L.seed L.keeps L.parts seat.old self.old }
+        ensures alone { L.parts ≡ 1 → seat.old.given ≡ self.old.node.from }
+        ensures none { IfNone result (self.old.node.from < seat.old.given) }
+        ensures same { IfNone result ((self.new ≡ self.old) × (seat.new ≡ seat.old)) }
     {
         self.audit(seat);
-        let from = self.cell.core().from();
-        let trace = self.cell.give(alloc);
-        Piece { from, trace }
+        let Guarded {
+            cell,
+            book: balance,
+        } = self;
+        let Seat {
+            calls: _,
+            given,
+            next: _,
+            share,
+        } = seat;
+        let core = cell.core();
+        let first = core.from();
+        if first < *given {
+            return None;
+        }
+        let more = core.calls() - first;
+        let trace = cell.give(alloc);
+        balance.add(share, more);
+        *given += more;
+        Some(Piece { from: first, trace })
     }
 
     /// Takes all seats back. What is left is the end of a legal trace, which has as many entries as the
-    /// seats made calls, and whose random draws are the first ones of the seed: all of it, where the
-    /// registry keeps each call.
+    /// seats made calls, and whose random draws are the first ones of the seed. It is all but what the
+    /// seats handed out: all of it where they handed out none, as where the registry keeps each call.
     pub fn close(self, seats: Vec<Seat<L>>) -> Closed
         requires all { vec_len seats ≡ L.parts }
         requires some { 0 < L.parts }
         ensures trace { map (call_from L.config.nodes) result.trace.calls
             ≡ drop self.node.from self.node.trace }
         ensures from { result.from ≡ self.node.from }
+        ensures given { result.from ≡ given_by seats.items }
         ensures left { IsLeft L.config L.seed result }
         ensures all { L.keeps ≡ true → IsAllLeft L.config L.seed result }
-        ensures calls { result.calls ≡ sum seats.items }
+        ensures ungiven { given_by seats.items ≡ 0 → IsAllLeft L.config L.seed result }
+        ensures calls { result.calls ≡ calls_from seats.items }
     {
         let Guarded { cell, mut book } = self;
         let mut all = gathered(seats);
@@ -324,6 +417,18 @@ impl<L: Label> Guarded<L> {
     }
 }
 
+// Adds calls to a share, whose loop does nothing when a program runs.
+fn add_calls<L: Label>(counted: &mut Book<L>, share: &mut Share<L>, calls: u64)
+    requires { 0 < share.old.parts }
+    ensures total { counted.new.total ≡ counted.old.total + amount_of calls 0 }
+    ensures amount { share.new.amount ≡ share.old.amount + amount_of calls 0 }
+    ensures parts { share.new.parts ≡ share.old.parts }
+{
+    for _ in 0..calls {
+        counted.add(share, CALL);
+    }
+}
+
 // A seat for each part.
 fn seated<L: Label>(
     alloc: Global,
@@ -332,12 +437,17 @@ fn seated<L: Label>(
 ) -> Result<Vec<Seat<L>>, AllocError>
     requires parts { rest.parts ≡ seats }
     requires amount { rest.amount ≡ 0 }
-    ensures { IfOk result (λ v. (vec_len v ≡ seats) × All (λ calls. calls ≡ 0) v.items) }
+    ensures { IfOk result (λ v. (vec_len v ≡ seats) × All (λ seat. seat ≡ new_seat) v.items) }
 {
     let mut all = Vec::with_capacity(alloc, usize::from(seats))?;
     for _ in 0..seats {
         let share = rest.split_off(1, 0);
-        all.push_reserved(Seat { calls: 0, share });
+        all.push_reserved(Seat {
+            calls: 0,
+            given: 0,
+            next: 0,
+            share,
+        });
     }
     Ok(all)
 }
@@ -346,18 +456,29 @@ fn seated<L: Label>(
 fn gathered<L: Label>(mut seats: Vec<Seat<L>>) -> Share<L>
     requires { 0 < vec_len seats }
     ensures parts { result.parts ≡ vec_len seats }
-    ensures amount { result.amount ≡ sum seats.items }
+    ensures amount { result.amount ≡ amount_of (calls_from seats.items) (given_by seats.items) }
+    ensures few { given_by seats.items ≤ vec_len seats * max_trace_cap }
 {
     let Some(
         Seat {
             calls: _,
+            given: _,
+            next: _,
             share: mut all,
         },
     ) = seats.pop()
     else {
         unreachable!()
     };
-    while let Some(Seat { calls: _, share }) = seats.pop() {
+    while let Some(
+        Seat {
+            calls: _,
+            given: _,
+            next: _,
+            share,
+        },
+    ) = seats.pop()
+    {
         all.merge(share);
     }
     all

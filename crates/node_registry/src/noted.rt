@@ -1,8 +1,9 @@
 //! The calls that a node refused, which contracts alone read.
 
-ghost use Rattle.std.specs.Prelude.{◌≡◌, ◌≤◌, ◌+◌, ◌++◌, ◌∷◌, [], IfOk, IfErr, OnErr, OnOk};
+ghost use Rattle.std.specs.Prelude.{◌≡◌, ◌++◌, ◌∷◌, [], IfOk, IfErr, OnErr, OnOk};
 ghost use Rattle.node_calls.specs.Asks.{ask_value_first};
 ghost use Rattle.node_registry.specs.Receipts.{IsGiven, IsRefused};
+ghost use Rattle.node_registry.specs.Seats.{ComesNext, called};
 
 use crate::guarded::Seat;
 use crate::label::Label;
@@ -68,8 +69,8 @@ impl<L: Label> Registry<L> {
         ensures node { IfOk result (λ r. r.node ≡ L.config.node) }
         ensures asked { IfOk result (λ r. r.entry.ask ≡ ask) }
         ensures given { IfOk result (IsGiven L.config L.seed) }
-        ensures since { IfOk result (λ r. seat.old ≤ r.index) }
-        ensures counted { OnOk result (seat.new ≡ seat.old + 1) }
+        ensures since { IfOk result (λ r. ComesNext seat.old r.index) }
+        ensures counted { IfOk result (λ r. seat.new ≡ called seat.old r.index) }
         ensures refused { IfErr result
             (IsRefused L.config L.seed (ask_value_first L.config.nodes ask)) }
         ensures err { OnErr result (seat.new ≡ seat.old) }

@@ -1,8 +1,9 @@
 //! One node behind one lock.
 
-ghost use Rattle.std.specs.Prelude.{◌≡◌, ℕ, ◌+◌, ◌≤◌, ◌<◌, ◌⊎◌, sum, vec_len, All};
+ghost use Rattle.std.specs.Prelude.{◌≡◌, ℕ, ◌≤◌, ◌<◌, ◌⊎◌, length, vec_len, All};
 ghost use Rattle.std.specs.Prelude.{IfOk, IfErr, OnErr, OnOk, IsTrue, MatchOption, true, false};
 ghost use Rattle.std.specs.Fn.{FnOnceReturnsAt};
+ghost use Rattle.std.specs.Sync.Mutex.{mutex_guard_value};
 ghost use Rattle.node_calls.specs.Asks as asks;
 ghost use Rattle.node_calls.specs.Asks.{ask_value_first, bare_emit};
 ghost use Rattle.node_calls.specs.Told.{ask_told, bytes_of};
@@ -13,6 +14,8 @@ ghost use Rattle.node_registry.specs.Cells.{Cell, IsCellSince, IsLawfulAt};
 ghost use Rattle.node_registry.specs.Pieces.{IsAllLeft, IsLeft, IsPieceOf};
 ghost use Rattle.node_registry.specs.Receipts.{IsAnswered, IsEntryFor, IsGiven, IsReceiptOf};
 ghost use Rattle.node_registry.specs.Receipts.{IsNoneAt, IsPassReceipt, IsReceiptAt, IsRefused};
+ghost use Rattle.node_registry.specs.Seats.{ComesNext, IsCalled, called, calls_from, gave, given_by};
+ghost use Rattle.node_registry.specs.Seats.{new_seat};
 
 use crate::batch::Batch;
 use crate::guarded::{Closed, Guarded, Piece, Seat};
@@ -55,7 +58,7 @@ impl<L: Label> Registry<L> {
         requires config { config ≡ L.config }
         requires seed { seed ≡ L.seed }
         ensures seats { IfOk result (λ r.
-            (vec_len r.1 ≡ seats) × All (λ calls. calls ≡ 0) r.1.items) }
+            (vec_len r.1 ≡ seats) × All (λ seat. seat ≡ new_seat) r.1.items) }
         ensures good { OnOk result (is_bad_config config ≡ false) }
         ensures err { IfErr result (λ f. (f ≡ NodeFault.OutOfMemory)
             ⊎ ((f ≡ NodeFault.BadConfig) × IsTrue (is_bad_config config))) }
@@ -80,6 +83,20 @@ impl<L: Label> Registry<L> {
         self.lock.lock(rt)
     }
 
+    // Takes the lock for a seat whose next call has at least this number. Each later holder of the
+    // lock finds at least as many calls, but no clause says so of a lock: so it is looked at.
+    fn held_since<R: Wait>(&self, rt: &R, next: u64) -> MutexGuard<'_, Guarded<L>>
+        ensures { next ≤ length (mutex_guard_value result).node.trace }
+    {
+        for _ in rt.forever() {
+            let guarded = self.held(rt);
+            if next <= guarded.core().calls() {
+                return guarded;
+            }
+        }
+        unreachable!()
+    }
+
     /// Makes a call under the lock, as `Guarded::enter` does, and counts it to the seat. The copy of
     /// the ask that the receipt has is made before.
     pub fn enter<R: Wait>(
@@ -92,8 +109,8 @@ impl<L: Label> Registry<L> {
         ensures receipt { IfOk result (λ r. (r.node ≡ L.config.node)
             × IsEntryFor L.config.nodes ask.now r.entry) }
         ensures given { IfOk result (IsGiven L.config L.seed) }
-        ensures since { IfOk result (λ r. seat.old ≤ r.index) }
-        ensures counted { OnOk result (seat.new ≡ seat.old + 1) }
+        ensures since { IfOk result (λ r. ComesNext seat.old r.index) }
+        ensures counted { IfOk result (λ r. seat.new ≡ called seat.old r.index) }
         ensures refused { IfErr result
             (IsRefused L.config L.seed (ask_value_first L.config.nodes ask.now)) }
         ensures err { OnErr result (seat.new ≡ seat.old) }
@@ -113,13 +130,13 @@ impl<L: Label> Registry<L> {
         ensures node { IfOk result (λ r. r.node ≡ L.config.node) }
         ensures asked { IfOk result (λ r. r.entry.ask ≡ ask) }
         ensures given { IfOk result (IsGiven L.config L.seed) }
-        ensures since { IfOk result (λ r. seat.old ≤ r.index) }
-        ensures counted { OnOk result (seat.new ≡ seat.old + 1) }
+        ensures since { IfOk result (λ r. ComesNext seat.old r.index) }
+        ensures counted { IfOk result (λ r. seat.new ≡ called seat.old r.index) }
         ensures refused { IfErr result
             (IsRefused L.config L.seed (ask_value_first L.config.nodes ask)) }
         ensures err { OnErr result (seat.new ≡ seat.old) }
     {
-        let mut guarded = self.held(rt);
+        let mut guarded = self.held_since(rt, seat.next());
         guarded.enter_owned(alloc, seat, ask)
     }
 
@@ -134,12 +151,12 @@ impl<L: Label> Registry<L> {
         ask: Ask,
     ) -> Result<Reply, NodeFault>
         ensures answered { IfOk result (IsAnswered L.config L.seed ask) }
-        ensures counted { OnOk result (seat.new ≡ seat.old + 1) }
+        ensures counted { OnOk result (IsCalled seat.old seat.new) }
         ensures refused { IfErr result
             (IsRefused L.config L.seed (ask_value_first L.config.nodes ask)) }
         ensures err { OnErr result (seat.new ≡ seat.old) }
     {
-        let mut guarded = self.held(rt);
+        let mut guarded = self.held_since(rt, seat.next());
         guarded.submit(alloc, seat, ask)
     }
 
@@ -154,8 +171,8 @@ impl<L: Label> Registry<L> {
     ) -> Result<Receipt, NodeFault>
         ensures receipt { IfOk result (IsReceiptOf L.config (asks.Set name.now text.now)) }
         ensures given { IfOk result (IsGiven L.config L.seed) }
-        ensures since { IfOk result (λ r. seat.old ≤ r.index) }
-        ensures counted { OnOk result (seat.new ≡ seat.old + 1) }
+        ensures since { IfOk result (λ r. ComesNext seat.old r.index) }
+        ensures counted { IfOk result (λ r. seat.new ≡ called seat.old r.index) }
         ensures refused { IfErr result (IsRefused L.config L.seed (asks.Set name.now text.now)) }
         ensures err { OnErr result (seat.new ≡ seat.old) }
     {
@@ -175,8 +192,8 @@ impl<L: Label> Registry<L> {
     ) -> Result<Receipt, NodeFault>
         ensures receipt { IfOk result (IsReceiptOf L.config (asks.Remove name.now)) }
         ensures given { IfOk result (IsGiven L.config L.seed) }
-        ensures since { IfOk result (λ r. seat.old ≤ r.index) }
-        ensures counted { OnOk result (seat.new ≡ seat.old + 1) }
+        ensures since { IfOk result (λ r. ComesNext seat.old r.index) }
+        ensures counted { IfOk result (λ r. seat.new ≡ called seat.old r.index) }
         ensures refused { IfErr result (IsRefused L.config L.seed (asks.Remove name.now)) }
         ensures err { OnErr result (seat.new ≡ seat.old) }
     {
@@ -195,8 +212,8 @@ impl<L: Label> Registry<L> {
     ) -> Result<Receipt, NodeFault>
         ensures receipt { IfOk result (IsReceiptOf L.config (asks.Load text.now)) }
         ensures given { IfOk result (IsGiven L.config L.seed) }
-        ensures since { IfOk result (λ r. seat.old ≤ r.index) }
-        ensures counted { OnOk result (seat.new ≡ seat.old + 1) }
+        ensures since { IfOk result (λ r. ComesNext seat.old r.index) }
+        ensures counted { IfOk result (λ r. seat.new ≡ called seat.old r.index) }
         ensures refused { IfErr result (IsRefused L.config L.seed (asks.Load text.now)) }
         ensures err { OnErr result (seat.new ≡ seat.old) }
     {
@@ -215,8 +232,8 @@ impl<L: Label> Registry<L> {
     ) -> Result<Receipt, NodeFault>
         ensures receipt { IfOk result (IsReceiptOf L.config (asks.Pass name.now)) }
         ensures given { IfOk result (IsGiven L.config L.seed) }
-        ensures since { IfOk result (λ r. seat.old ≤ r.index) }
-        ensures counted { OnOk result (seat.new ≡ seat.old + 1) }
+        ensures since { IfOk result (λ r. ComesNext seat.old r.index) }
+        ensures counted { IfOk result (λ r. seat.new ≡ called seat.old r.index) }
         ensures refused { IfErr result (IsRefused L.config L.seed (asks.Pass name.now)) }
         ensures err { OnErr result (seat.new ≡ seat.old) }
     {
@@ -238,8 +255,8 @@ impl<L: Label> Registry<L> {
     ) -> Result<Receipt, NodeFault>
         ensures receipt { IfOk result (IsReceiptOf L.config (asks.Shift name.now term to amount)) }
         ensures given { IfOk result (IsGiven L.config L.seed) }
-        ensures since { IfOk result (λ r. seat.old ≤ r.index) }
-        ensures counted { OnOk result (seat.new ≡ seat.old + 1) }
+        ensures since { IfOk result (λ r. ComesNext seat.old r.index) }
+        ensures counted { IfOk result (λ r. seat.new ≡ called seat.old r.index) }
         ensures refused { IfErr result
             (IsRefused L.config L.seed (asks.Shift name.now term to amount)) }
         ensures err { OnErr result (seat.new ≡ seat.old) }
@@ -266,8 +283,8 @@ impl<L: Label> Registry<L> {
     ) -> Result<Receipt, NodeFault>
         ensures receipt { IfOk result (IsReceiptOf L.config (asks.Grant name.now term amount)) }
         ensures given { IfOk result (IsGiven L.config L.seed) }
-        ensures since { IfOk result (λ r. seat.old ≤ r.index) }
-        ensures counted { OnOk result (seat.new ≡ seat.old + 1) }
+        ensures since { IfOk result (λ r. ComesNext seat.old r.index) }
+        ensures counted { IfOk result (λ r. seat.new ≡ called seat.old r.index) }
         ensures refused { IfErr result
             (IsRefused L.config L.seed (asks.Grant name.now term amount)) }
         ensures err { OnErr result (seat.new ≡ seat.old) }
@@ -288,8 +305,8 @@ impl<L: Label> Registry<L> {
         ensures receipt { IfOk result (λ r.
             IsReceiptOf L.config (emit_asked L.config.nodes to r.entry.reply) r) }
         ensures given { IfOk result (IsGiven L.config L.seed) }
-        ensures since { IfOk result (λ r. seat.old ≤ r.index) }
-        ensures counted { OnOk result (seat.new ≡ seat.old + 1) }
+        ensures since { IfOk result (λ r. ComesNext seat.old r.index) }
+        ensures counted { IfOk result (λ r. seat.new ≡ called seat.old r.index) }
         ensures refused { IfErr result (IsRefused L.config L.seed (bare_emit to)) }
         ensures err { OnErr result (seat.new ≡ seat.old) }
     {
@@ -309,8 +326,8 @@ impl<L: Label> Registry<L> {
             (IsReceiptOf L.config (asks.Deliver (message_read L.config.nodes message.now))) }
         ensures bytes { IfOk result (λ r. bytes_of (ask_told r.entry.ask) ≡ message.now) }
         ensures given { IfOk result (IsGiven L.config L.seed) }
-        ensures since { IfOk result (λ r. seat.old ≤ r.index) }
-        ensures counted { OnOk result (seat.new ≡ seat.old + 1) }
+        ensures since { IfOk result (λ r. ComesNext seat.old r.index) }
+        ensures counted { IfOk result (λ r. seat.new ≡ called seat.old r.index) }
         ensures refused { IfErr result
             (IsRefused L.config L.seed (asks.Deliver (message_read L.config.nodes message.now))) }
         ensures err { OnErr result (seat.new ≡ seat.old) }
@@ -330,12 +347,12 @@ impl<L: Label> Registry<L> {
         point: &Name,
     ) -> Result<PassReceipt, NodeFault>
         ensures receipt { IfOk result (IsPassReceipt L.config L.seed point.now) }
-        ensures since { IfOk result (λ r. seat.old ≤ r.index) }
-        ensures counted { OnOk result (seat.new ≡ seat.old + 1) }
+        ensures since { IfOk result (λ r. ComesNext seat.old r.index) }
+        ensures counted { IfOk result (λ r. seat.new ≡ called seat.old r.index) }
         ensures refused { IfErr result (IsRefused L.config L.seed (asks.Pass point.now)) }
         ensures err { OnErr result (seat.new ≡ seat.old) }
     {
-        let mut guarded = self.held(rt);
+        let mut guarded = self.held_since(rt, seat.next());
         guarded.pass_point(alloc, seat, point)
     }
 
@@ -348,10 +365,11 @@ impl<L: Label> Registry<L> {
         seat: &mut Seat<L>,
         batch: &mut B,
     ) -> T
-        ensures { IsBatch L.config L.seed L.keeps L.parts seat.old seat.new
+        ensures batch { IsBatch L.config L.seed L.keeps L.parts seat.old seat.new
             (λ was now. B.comes batch.old batch.new was now result) }
+        ensures given { seat.new.given ≡ seat.old.given }
     {
-        let mut guarded = self.held(rt);
+        let mut guarded = self.held_since(rt, seat.next());
         guarded.make_batch(alloc, seat, batch)
     }
 
@@ -371,7 +389,7 @@ impl<L: Label> Registry<L> {
             × MatchOption found (IsNoneAt c index) (IsReceiptAt c index)) }
         ensures same { seat.new ≡ seat.old }
     {
-        let mut guarded = self.held(rt);
+        let mut guarded = self.held_since(rt, seat.next());
         guarded.receipt(alloc, seat, index)
     }
 
@@ -398,32 +416,39 @@ impl<L: Label> Registry<L> {
             × FnOnceReturnsAt F.FnOnce f c.node result }
         ensures same { seat.new ≡ seat.old }
     {
-        let mut guarded = self.held(rt);
+        let mut guarded = self.held_since(rt, seat.next());
         guarded.audit(seat);
         f(guarded.core())
     }
 
-    /// Hands out the calls that the node keeps, and keeps none: to be written or looked at once the lock
-    /// is let go. Receipts' numbers stay what they are. It takes no memory.
+    /// Hands out the calls that the node keeps, keeps none, and counts them to the seat: to be written
+    /// or looked at once the lock is let go. Receipts' numbers stay what they are. It takes no memory.
     pub fn give<R: Wait>(&self, rt: &R, alloc: Global, seat: &mut Seat<L>) -> Piece
         requires { L.keeps ≡ false }
         ensures piece { (c : Cell) × IsCellSince L.config L.seed L.keeps L.parts seat.old c
             × IsPieceOf c result }
-        ensures same { seat.new ≡ seat.old }
+        ensures counted { seat.new ≡ gave seat.old (length result.trace.calls) }
     {
-        let mut guarded = self.held(rt);
-        guarded.give(alloc, seat)
+        for _ in rt.forever() {
+            let mut guarded = self.held_since(rt, seat.next());
+            if let Some(piece) = guarded.give(alloc, seat) {
+                return piece;
+            }
+        }
+        unreachable!()
     }
 
     /// Takes all seats back. What is left is the end of a legal trace, which has as many entries as the
-    /// seats made calls, and whose random draws are the first ones of the seed: all of it, where the
-    /// registry keeps each call.
+    /// seats made calls, and whose random draws are the first ones of the seed. It is all but what the
+    /// seats handed out: all of it where they handed out none, as where the registry keeps each call.
     pub fn close(self, seats: Vec<Seat<L>>) -> Closed
         requires all { vec_len seats ≡ L.parts }
         requires some { 0 < L.parts }
         ensures left { IsLeft L.config L.seed result }
         ensures all { L.keeps ≡ true → IsAllLeft L.config L.seed result }
-        ensures calls { result.calls ≡ sum seats.items }
+        ensures ungiven { given_by seats.items ≡ 0 → IsAllLeft L.config L.seed result }
+        ensures from { result.from ≡ given_by seats.items }
+        ensures calls { result.calls ≡ calls_from seats.items }
     {
         let Registry { lock } = self;
         lock.into_inner().close(seats)

@@ -12,7 +12,6 @@ use crate::noted::Refusals;
 use crate::registry::Registry;
 use node_core::{Ask, NodeFault, Receipt};
 use std::alloc::{AllocError, Global};
-use std::marker::PhantomData;
 use std::snapshot::Snapshot;
 use std::sync::Wait;
 use std::sync::atomic::{AtomicU64, Ordering};
@@ -162,20 +161,18 @@ fn run<L: Label, G: Gate, R: Wait>(
     }
 }
 
-// The worker of this number makes these asks from a seat that had made so many calls, and asks this
-// gate for each.
+// The worker of this number makes these asks from a seat that was so, and asks this gate for each.
 #[derive(Drop)]
 struct Does<L: Label, G: Gate> {
     worker: u16,
     gate: Snapshot<G>,
-    was: u64,
+    was: Snapshot<Seat<L>>,
     asks: Snapshot<Vec<Ask>>,
-    of: PhantomData<L>,
 }
 
 impl<L: Label, G: Gate> Promise<Done<L>> for Does<L, G> {
     ghost kept_by = { λ p d. IsDone L.config L.seed (G.says p.gate.value p.worker)
-        (G.hears p.gate.value p.worker) p.was p.asks.value.items d };
+        (G.hears p.gate.value p.worker) p.was.value p.asks.value.items d };
 }
 
 // A worker: its thread, or what it hands back where it has none.
@@ -193,7 +190,7 @@ fn start_one<'s, E, L: Label + Send + Sync + 's, G: Gate + Sync, R: Wait + Sync>
 ) -> Worker<L, G>
     ensures { MatchResult result
         (λ h. (h.promise.worker ≡ worker) × (h.promise.gate.value ≡ gate.now)
-        × (h.promise.was ≡ task.entry.job.seat)
+        × (h.promise.was.value ≡ task.entry.job.seat)
         × (h.promise.asks.value.items ≡ task.entry.job.asks.items))
         (λ d. IsDone L.config L.seed (G.says gate.now worker) (G.hears gate.now worker)
         task.entry.job.seat task.entry.job.asks.items d) }
@@ -201,9 +198,8 @@ fn start_one<'s, E, L: Label + Send + Sync + 's, G: Gate + Sync, R: Wait + Sync>
     let promise = Does {
         worker,
         gate: Snapshot::of(gate),
-        was: task.job.seat.calls(),
+        was: Snapshot::of(&task.job.seat),
         asks: Snapshot::of(&task.job.asks),
-        of: PhantomData,
     };
     let started = scope.spawn_with(
         promise,
@@ -313,7 +309,7 @@ fn start_all<'s, E, L: Label + Send + Sync + 's, G: Gate + Sync, R: Wait + Sync>
     ensures len { vec_len result ≡ vec_len tasks.entry }
     ensures each { AllNumbered (λ n t w. MatchResult w
         (λ h. (h.promise.worker ≡ n) × (h.promise.gate.value ≡ gate.now)
-        × (h.promise.was ≡ t.job.seat) × (h.promise.asks.value.items ≡ t.job.asks.items))
+        × (h.promise.was.value ≡ t.job.seat) × (h.promise.asks.value.items ≡ t.job.asks.items))
         (λ d. IsDone L.config L.seed (G.says gate.now n) (G.hears gate.now n) t.job.seat
         t.job.asks.items d)) 0
         (reverse tasks.entry.items) result.items }
@@ -337,7 +333,7 @@ fn join_all<L: Label, G: Gate, R: Threads>(
     requires room { vec_len workers ≤ vec_capacity dones }
     ensures { AllZip (λ w d. MatchResult w
         (λ h. IsDone L.config L.seed (G.says h.promise.gate.value h.promise.worker)
-        (G.hears h.promise.gate.value h.promise.worker) h.promise.was
+        (G.hears h.promise.gate.value h.promise.worker) h.promise.was.value
         h.promise.asks.value.items d) (λ e. d ≡ e))
         workers.items result.items }
 {

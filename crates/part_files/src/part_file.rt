@@ -259,11 +259,11 @@ fn gone_on<L: Label, I: Read, R: Wait>(
 ) -> Result<Option<Repeated>, OpenFault>
     requires keeps { L.keeps ≡ false }
     requires first { IsFirstLine (head_told own.now) first.now }
-    ensures counted { IfOk result (λ had. seat.new ≡ seat.old + calls_of had) }
+    ensures counted { IfOk result (λ had. seat.new.calls ≡ seat.old.calls + calls_of had) }
     ensures journal { IfOk result (λ had. IfBytes I.remaining reader.old (λ bytes.
-        HasJournal L.config L.seed seat.old seat.new first.now bytes had)) }
+        HasJournal L.config L.seed seat.old.calls seat.new.calls first.now bytes had)) }
     ensures fault { IfErr result (λ fault. IfBytes I.remaining reader.old (λ bytes.
-        IsOpenFault L.config L.seed seat.old first.now bytes fault)) }
+        IsOpenFault L.config L.seed seat.old.calls first.now bytes fault)) }
     ensures read_failed { (result ≡ Err (OpenFault.Lines PartFault.ReadFailed))
         ↔ (has_failed (reader_inner reader.new) ≡ true) }
 {
@@ -329,11 +329,12 @@ where
     requires keeps { L.keeps ≡ false }
     requires first { IsFirstLine (head_told own.now) first.now }
     requires same { F.contents file.old ≡ I.remaining input }
-    ensures counted { IfOk result (λ had. seat.new ≡ seat.old + calls_of had) }
+    ensures counted { IfOk result (λ had. seat.new.calls ≡ seat.old.calls + calls_of had) }
     ensures resumed { IfOk result (λ had. IfSome (I.remaining input) (λ bytes.
-        IsResumed L.config L.seed seat.old seat.new first.now bytes had (F.contents file.new))) }
+        IsResumed L.config L.seed seat.old.calls seat.new.calls first.now bytes had
+        (F.contents file.new))) }
     ensures fault { IfErr result (λ fault. IfSome (I.remaining input) (λ bytes.
-        IsResumeFault L.config L.seed seat.old first.now bytes fault)) }
+        IsResumeFault L.config L.seed seat.old.calls first.now bytes fault)) }
     ensures untouched { IfErr result (λ fault. IsUntouched fault file.old file.new) }
 {
     let Ok(mut reader) = BufReader::new(alloc, Watched::new(input)) else {
@@ -366,7 +367,7 @@ where
     L: Label,
     R: Wait + Clock + Files<File = File>,
     requires { L.keeps ≡ false }
-    ensures { IfOk result (λ part. seat.new ≡ seat.old + part.calls) }
+    ensures { IfOk result (λ part. seat.new.calls ≡ seat.old.calls + part.calls) }
 {
     let file = locked(rt, options.path)?;
     let own = head_of(alloc, registry.with(rt, |core| core.config()), options.run)?;

@@ -1,5 +1,5 @@
 -- A piece of a node was written.
-use Rattle.std.proofs.Common.{◌≡◌, ℕ, ◌+◌, ◌-◌, ◌≤◌, arith, Bool, List, length, sym, ap, subst, Option}
+use Rattle.std.proofs.Common.{◌≡◌, ℕ, ◌+◌, ◌-◌, ◌≤◌, arith, Bool, List, length, ap, Option}
 use Rattle.std.proofs.lemmas.List.{length-drop, length-map}
 use Rattle.std.proofs.lemmas.Option.{slice_get_within}
 use Rattle.node_calls.specs.declared.ask.Ask.{Ask}
@@ -12,6 +12,8 @@ use Rattle.node_registry.specs.declared.guarded.Piece.{Piece}
 use Rattle.node_registry.specs.Cells.{Cell, IsCellSince}
 use Rattle.node_registry.specs.Pieces.{IsPieceOf}
 use Rattle.node_registry.specs.Receipts.{IsGiven}
+use Rattle.node_registry.specs.Seats.{HasSameCalls, SeatState, gave}
+use Rattle.node_registry.proofs.SameCalls.{cell_as}
 use Rattle.part_keeper.specs.Kept.{IsRecorded}
 use Rattle.part_keeper.specs.Pieces.{Adds, Continues, HasCall, HasLine}
 
@@ -24,8 +26,12 @@ all_before c p h =
     let left = length-drop c.node.from c.node.trace in
     omega (arith, from, same, each, left)
 
+-- a seat that handed calls out made no other
+pub same_after : (had now : SeatState) (more : ℕ) → now ≡ gave had more → HasSameCalls had now
+same_after had now more is = (ap (λ (s : SeatState). s.calls) is, ap (λ (s : SeatState). s.next) is)
+
 module _ {W : Type 0} (contents : W → Option (List ℕ)) (config : Config) (seed : List ℕ) (keeps : Bool)
-    (seats seat : ℕ) (old new : W) (had has : ℕ) where
+    (seats : ℕ) (seat : SeatState) (old new : W) (had has : ℕ) where
   abbrev pub continues : (c : Cell) (p : Piece) → IsCellSince config seed keeps seats seat c → IsPieceOf c p →
       Adds contents old new had has p → Continues contents config seed keeps seats seat old new had has
   continues c p since given added =
@@ -42,16 +48,16 @@ module _ {W : Type 0} (contents : W → Option (List ℕ)) (config : Config) (se
       }
 
   -- by what a node gave
-  abbrev pub given_continues : (was : ℕ) (p : Piece) → seat ≡ was →
+  abbrev pub given_continues : (was : SeatState) (p : Piece) → HasSameCalls was seat →
       ((c : Cell) × IsCellSince config seed keeps seats was c × IsPieceOf c p) → Adds contents old new had has p →
       Continues contents config seed keeps seats seat old new had has
   given_continues was p same h added =
-      continues h.0 p (subst (λ n. IsCellSince config seed keeps seats n h.0) (sym same) h.1) h.2 added
+      continues h.0 p (cell_as config seed keeps seats was seat h.0 same h.1) h.2 added
 
   -- so all calls of the seat have their line
-  pub seat_has_lines : Continues contents config seed keeps seats seat old new had has → seat ≤ has
+  pub seat_has_lines : Continues contents config seed keeps seats seat old new had has → seat.calls ≤ has
   seat_has_lines k =
-      let since = k.since.since in
+      let since = k.since.0.since in
       let whole = k.whole in
       omega (arith, since, whole)
 

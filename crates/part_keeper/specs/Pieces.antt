@@ -10,6 +10,7 @@ use Rattle.node_registry.specs.declared.guarded.Piece.{Piece}
 use Rattle.node_registry.specs.Cells.{Cell, IsCellSince}
 use Rattle.node_registry.specs.Pieces.{IsPieceOf}
 use Rattle.node_registry.specs.Receipts.{IsGiven}
+use Rattle.node_registry.specs.Seats.{SeatState}
 use Rattle.part_keeper.specs.declared.journal.Journal.{Journal}
 use Rattle.part_keeper.specs.Kept.{Records}
 
@@ -31,7 +32,7 @@ Writes contents old new piece =
 
 -- So it was with what some lawful node kept, which has the calls of a seat. All its calls have their line then
 pub record Continues {W : Type 0} (contents : W → Option (List ℕ)) (config : Config) (seed : List ℕ) (keeps : Bool)
-    (seats seat : ℕ) (old new : W) (had has : ℕ) : Type 0 where
+    (seats : ℕ) (seat : SeatState) (old new : W) (had has : ℕ) : Type 0 where
   pub cell : Cell
   pub piece : Piece
   pub since : IsCellSince config seed keeps seats seat cell
@@ -41,7 +42,7 @@ pub record Continues {W : Type 0} (contents : W → Option (List ℕ)) (config :
 
 -- and the call of a receipt is among them, which has this ask and this reply
 pub record HasLine {W : Type 0} (contents : W → Option (List ℕ)) (config : Config) (seed : List ℕ) (keeps : Bool)
-    (seats seat : ℕ) (old new : W) (had has : ℕ) (ask : Ask) (reply : Reply) : Type 0 where
+    (seats : ℕ) (seat : SeatState) (old new : W) (had has : ℕ) (ask : Ask) (reply : Reply) : Type 0 where
   pub on : Continues contents config seed keeps seats seat old new had has
   pub receipt : Receipt
   pub asked : receipt.entry.ask ≡ ask

@@ -8,6 +8,7 @@ ghost use Rattle.node_registry.specs.declared.guarded.Piece.{Piece};
 ghost use Rattle.node_registry.specs.Cells.{Cell, IsCellSince};
 ghost use Rattle.node_registry.specs.Pieces.{IsPieceOf};
 ghost use Rattle.node_registry.specs.Receipts.{IsAnswered};
+ghost use Rattle.node_registry.specs.Seats.{HasSameCalls};
 ghost use Rattle.part_keeper.specs.Kept.{IsRecorded, IsUnanswered, Records};
 ghost use Rattle.part_keeper.specs.Pieces.{Continues, HasLine};
 
@@ -55,7 +56,7 @@ pub struct Recording<L: Label, W> {
     seat: Seat<L>,
     journal: Journal<W>,
     ghost forgets: { L.keeps ≡ false },
-    ghost kept: { journal.lines.has_failed ≡ false → seat ≤ journal.calls },
+    ghost kept: { journal.lines.has_failed ≡ false → seat.calls ≤ journal.calls },
 }
 
 impl<L: Label, W: Write> Recording<L, W> {
@@ -65,7 +66,7 @@ impl<L: Label, W: Write> Recording<L, W> {
     pub fn new(seat: Seat<L>, lines: PartLines<W>) -> Recording<L, W>
         requires { L.keeps ≡ false }
         ensures held { (result.seat ≡ seat) × (result.journal.lines ≡ lines) }
-        ensures written { written_of result ≡ seat }
+        ensures written { written_of result ≡ seat.calls }
     {
         let written = seat.calls();
         Recording {
@@ -97,7 +98,7 @@ impl<L: Label, W: Write> Recording<L, W> {
             self.new.seat (out_of self.old) (out_of self.new) (written_of self.old)
             (written_of self.new) ask) }
         ensures flushed { OnOk result (has_unflushed self.new.journal.lines.out ≡ false) }
-        ensures counted { OnOk result (self.new.seat ≡ self.old.seat + 1) }
+        ensures counted { OnOk result (self.new.seat.calls ≡ self.old.seat.calls + 1) }
         ensures unanswered { IfErr result (IsUnanswered L.config L.seed ask) }
         ensures unmade { IfErr result (λ fault. fault ≢ CallFault.NotRecorded
             → (self.new.seat ≡ self.old.seat) × (self.new.journal ≡ self.old.journal)) }
@@ -173,7 +174,7 @@ impl<L: Label, W: Write> Recording<L, W> {
         ensures handed { IfOk result (λ written. (written.message.now ≡ [])
             × (written.calls ≡ written_of self.new)) }
         ensures failed { IsErr result ↔ (self.new.journal.lines.has_failed ≡ true) }
-        ensures seat { self.new.seat ≡ self.old.seat }
+        ensures seat { HasSameCalls self.old.seat self.new.seat }
     {
         self.keep_before(rt, alloc, registry, b"")
     }
@@ -196,7 +197,7 @@ impl<L: Label, W: Write> Recording<L, W> {
         ensures handed { IfOk result (λ written. (written.message.now ≡ message.now)
             × (written.calls ≡ written_of self.new)) }
         ensures failed { IsErr result ↔ (self.new.journal.lines.has_failed ≡ true) }
-        ensures seat { self.new.seat ≡ self.old.seat }
+        ensures seat { HasSameCalls self.old.seat self.new.seat }
     {
         let piece = registry.give(rt, alloc, &mut self.seat);
         self.journal.write(alloc, &piece)?;

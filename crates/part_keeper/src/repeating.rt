@@ -64,7 +64,8 @@ pub fn repeat_call<L: Label, R: Wait>(
     seat: &mut Seat<L>,
     line: &[u8],
 ) -> Result<(), LineFault>
-    ensures given { OnOk result (IsRepeated L.config L.seed seat.old seat.new line.now) }
+    ensures given { OnOk result (IsRepeated L.config L.seed seat.old.calls seat.new.calls
+        line.now) }
     ensures no_call { result ≡ Err LineFault.NoCall → entry_read line.now ≡ None }
     ensures differs { result ≡ Err LineFault.Differs → IsOtherwise L.config L.seed line.now }
 {
@@ -172,11 +173,11 @@ pub fn repeat_calls<L: Label, I: Read, R: Wait>(
     reader: &mut BufReader<Watched<I>>,
 ) -> Result<Repeated, PartFault>
     requires { L.keeps ≡ false }
-    ensures counted { IfOk result (λ r. seat.new ≡ seat.old + r.calls) }
+    ensures counted { IfOk result (λ r. seat.new.calls ≡ seat.old.calls + r.calls) }
     ensures repeated { IfOk result (λ r. IfBytes I.remaining reader.old (λ bytes.
-        AreAllRepeated L.config L.seed seat.old seat.new bytes r)) }
+        AreAllRepeated L.config L.seed seat.old.calls seat.new.calls bytes r)) }
     ensures fault { IfErr result (λ fault. IfBytes I.remaining reader.old (λ bytes.
-        IsFaultOf L.config L.seed seat.old bytes fault)) }
+        IsFaultOf L.config L.seed seat.old.calls bytes fault)) }
     ensures read_failed { (result ≡ Err PartFault.ReadFailed)
         ↔ (has_failed (reader_inner reader.new) ≡ true) }
 {

@@ -7,6 +7,7 @@ use Rattle.std.proofs.lemmas.List.Sums.{sum_by-cons}
 use Rattle.node_steps.specs.declared.config.Config.{Config}
 use Rattle.node_calls.specs.Asks.{Asked, bare_emit}
 use Rattle.command_line.specs.declared.peers.NamedPeer.{NamedPeer}
+use Rattle.node_registry.specs.Seats.{SeatState}
 use Rattle.gossip.specs.declared.news.Pace.{Pace}
 use Rattle.gossip.specs.declared.report.Ended.{Ended}
 use Rattle.gossip.specs.declared.report.Ended.TheVariants.{Done, OutOfMemory}
@@ -50,20 +51,21 @@ made_or_taken (a ∷ rest) h =
     (count_by is_delivery rest) h (made_or_taken rest))
 
 -- the calls of a round that made messages to these nodes at most, of a seat that had made so many
-of_emits : (config : Config) (seed : List ℕ) (was now most : ℕ) (r : GossipReport) → IsTold config seed was now r →
+of_emits : (config : Config) (seed : List ℕ) (was now : SeatState) (most : ℕ) (r : GossipReport) → IsTold config seed was now r →
     (tos : List ℕ) → IsPartOf (own_asks_in config r.receipts.items) (map bare_emit tos) → calls_of r ≤ most →
-    now ≤ was + most
+    now.calls ≤ was.calls + most
 of_emits config seed was now most r told tos part few =
     let all = made_or_taken (asks_in config r.receipts.items) (some_emits part (all_emits tos)) in
     let long = length-map r.receipts.items (asked_in config) in
-    omega (arith, told.counted, told.emitted, told.delivered, all, long, few)
+    omega (arith, told.calls, told.emitted, told.delivered, all, long, few)
 
 -- those of a round of news
-pub calls_of_a_round : (config : Config) (seed : List ℕ) (says : ℕ → Bool → Type 0) (since was now most : ℕ)
+pub calls_of_a_round : (config : Config) (seed : List ℕ) (says : ℕ → Bool → Type 0) (since : ℕ)
+    (was now : SeatState) (most : ℕ)
     (before after : Traffic) (ps qs : List Pace) (r : GossipReport) → IsTold config seed was now r →
     (r.ended ≡ Done → IsNewsRound config seed since says before after ps qs r) →
     (r.ended ≡ OutOfMemory → IsNewsBroken config seed since says before after ps qs r) →
-    calls_of r ≤ length ps + 64 → length ps ≤ most → now ≤ was + (most + 64)
+    calls_of r ≤ length ps + 64 → length ps ≤ most → now.calls ≤ was.calls + (most + 64)
 calls_of_a_round config seed says since was now most before after ps qs r told round broken few peers =
     let made = by_end r.ended refl in
     of_emits config seed was now (most + 64) r told made.0 made.1 (omega (arith, few, peers))

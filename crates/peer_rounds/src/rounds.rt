@@ -117,7 +117,7 @@ where
     ensures rounds { AreTold telling.now.rights L.config L.seed L.keeps L.parts
         telling.now.rounds seat.old seat.new [] }
     ensures few { telling.now.rights ≡ Stay
-        → seat.new ≤ seat.old + telling.now.rounds * most_calls L.config }
+        → seat.new.calls ≤ seat.old.calls + telling.now.rounds * most_calls L.config }
 {
     let mut said = Said::new(rt.alloc());
     let mut sharing = Sharing::new(rt.alloc());
@@ -157,7 +157,7 @@ where
     ensures rounds { AreTold telling.now.rights L.config L.seed L.keeps L.parts
         telling.now.rounds seat.old seat.new [] }
     ensures few { telling.now.rights ≡ Stay
-        → seat.new ≤ seat.old + telling.now.rounds * most_calls L.config }
+        → seat.new.calls ≤ seat.old.calls + telling.now.rounds * most_calls L.config }
 {
     if let Ok(mut paces) = first_paces(rt, registry, &telling.peers) {
         tell_rounds(

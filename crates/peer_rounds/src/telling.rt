@@ -37,7 +37,7 @@ where
     ensures rounds { AreTold telling.now.rights L.config L.seed L.keeps L.parts
         telling.now.rounds seat.old seat.new [] }
     ensures few { telling.now.rights ≡ Stay
-        → seat.new ≤ seat.old + telling.now.rounds * most_calls L.config }
+        → seat.new.calls ≤ seat.old.calls + telling.now.rounds * most_calls L.config }
 {
     let Ok(wire) = wire_to(rt, &telling.peers, key) else {
         return;

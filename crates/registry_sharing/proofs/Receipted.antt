@@ -1,8 +1,9 @@
 -- The receipts of shifts that are made.
-use Rattle.std.proofs.Common.{◌≡◌, ◌∙◌, ℕ, suc, ◌+◌, ◌<◌, ◌≤◌, Bool, true, false, cond, List, [], ◌∷◌, ◌++◌, length, take, Option, None, Some, Result, Ok, Err, refl, sym, ap, subst, arith, append_assoc, append-nil, length-append, true≢false}
+use Rattle.std.proofs.Common.{◌≡◌, ◌∙◌, ℕ, suc, ◌+◌, ◌<◌, ◌≤◌, ◌==◌, Bool, true, false, cond, List, [], ◌∷◌, ◌++◌, length, take, Option, None, Some, Result, Ok, Err, refl, sym, ap, subst, arith, append_assoc, append-nil, length-append, true≢false}
 use Rattle.std.specs.Prelude.{IfErr, IfOk, OnOk, nat_lt, slice_get, option_map, Vec}
 use Rattle.std.specs.declared.alloc.AllocError.{AllocError}
 use Rattle.std.specs.declared.alloc.Global.{Global}
+use Rattle.std.proofs.lemmas.Bool.Decides.{nat_tests}
 use Rattle.std.proofs.lemmas.Option.{none-some, same_Some}
 use Rattle.node_steps.specs.declared.config.Config.{Config}
 use Rattle.node_calls.specs.declared.fault.NodeFault.{NodeFault}
@@ -18,10 +19,12 @@ use Rattle.node_core.specs.Applied.{TellsIfEmit}
 use Rattle.node_core.specs.Traces.{Kept, Records, after_call, call_kept, entry_for, refusal}
 use Rattle.node_registry.specs.Batches.{IsBatch}
 use Rattle.node_registry.specs.Cells.{Cell, Enters, IsLawfulAt, next_words}
-use Rattle.node_registry.specs.Receipts.{AreGivenSince, receipt_of}
+use Rattle.node_registry.specs.Receipts.{AreGivenSince, receipt_of, seat_after}
+use Rattle.node_registry.specs.Seats.{AreCalled, ComesNext, SeatState, called}
 use Rattle.node_registry.specs.Words.{words_taken}
 use Rattle.node_registry.proofs.AcceptedBatches.{accepted_length}
 use Rattle.node_registry.proofs.LawfulCells.{stays_lawful}
+use Rattle.node_registry.proofs.SeatReceipts.{after_calls, after_given}
 use Rattle.node_sharing.specs.Made.{AreMade, IsStopped, asked, shifts_due}
 use Rattle.sharing.specs.Memory.{Recalled}
 use Rattle.sharing.specs.declared.shift.Shift.{Shift}
@@ -187,23 +190,59 @@ receipts_of_made c (shift ∷ shifts) new (r ∷ rs) made calls long =
           (subst (λ n. AreCallsFrom new n rs) (sym one) calls.3) (omega (arith, one, long)),
     )
 
+-- the length of a trace with a call more
+one_longer : (c e : Cell) (r : Receipt) → Enters c e r.entry → length e.node.trace ≡ length c.node.trace + 1
+one_longer c e r enters = ap (λ (n : Kept). length n.trace) enters.records.2 ∙ length-append c.node.trace _
+
 -- they are given the seat since its calls before
-pub given_of : (config : Config) (seed : List ℕ) (calls : ℕ) (c : Cell) (rs : List Receipt) (d : Cell) →
-    IsLawfulAt config seed c → calls ≤ length c.node.trace → AreReceiptsOf c rs d → AreGivenSince config seed calls rs
-given_of config seed calls c [] d lawful since are = tt
-given_of config seed calls c (r ∷ rs) d lawful since are =
+pub given_of : (config : Config) (seed : List ℕ) (seat : SeatState) (c : Cell) (rs : List Receipt) (d : Cell) →
+    IsLawfulAt config seed c → ComesNext seat (length c.node.trace) → AreReceiptsOf c rs d →
+    AreGivenSince config seed seat rs
+given_of config seed seat c [] d lawful next are = tt
+given_of config seed seat c (r ∷ rs) d lawful next are =
     let e = are.0 in
     let enters = are.1 in
     let index : r.index ≡ length c.node.trace = ap (λ (x : Receipt). x.index) are.2 in
     let config_is : e.node.config ≡ c.node.config = ap (λ (n : Kept). n.config) enters.records.2 in
-    let longer : length e.node.trace ≡ length c.node.trace + 1 =
-    ap (λ (n : Kept). length n.trace) enters.records.2 ∙ length-append c.node.trace _ in (
+    let longer = one_longer c e r enters in (
       (c, e, lawful, enters, are.2),
-      omega (arith, index, since),
-      given_of config seed (calls + 1) e rs d
+      (omega (arith, index, next.0), omega (arith, index, next.1)),
+      given_of config seed (called seat r.index) e rs d
           (stays_lawful c e r.entry lawful.0 enters, config_is ∙ lawful.1, enters.key ∙ lawful.2)
-          (omega (arith, longer, since)) are.3,
+          (omega (arith, longer, next.0), omega (arith, longer, index)) are.3,
     )
+
+-- the seat that made these calls counts each, and its last one is the last of the trace
+not_zero : (n : ℕ) → 0 < n → (n == 0) ≡ false
+not_zero n some = grind (arith, nat_tests)
+
+last_next : (r : Receipt) (c e : Cell) (rs : List Receipt) (d : Cell) → r ≡ receipt_of c r.entry → Enters c e r.entry →
+    AreReceiptsOf e rs d → cond (length rs == 0) (r.index + 1) (length d.node.trace) ≡ length d.node.trace
+last_next r c e [] d is enters are =
+    let index : r.index ≡ length c.node.trace = ap (λ (x : Receipt). x.index) is in
+    let longer = one_longer c e r enters in
+    let same : length d.node.trace ≡ length e.node.trace = ap (λ (x : Cell). length x.node.trace) are in
+    omega (arith, index, longer, same)
+last_next r c e (q ∷ qs) d is enters are =
+    ap (λ b. cond b (r.index + 1) (length d.node.trace)) (not_zero (length (q ∷ qs)) (omega arith))
+
+after_next : (seat : SeatState) (c : Cell) (rs : List Receipt) (d : Cell) → AreReceiptsOf c rs d →
+    (seat_after seat rs).next ≡ cond (length rs == 0) seat.next (length d.node.trace)
+after_next seat c [] d are = refl
+after_next seat c (r ∷ rs) d are =
+    after_next (called seat r.index) are.0 rs d are.3
+    ∙ last_next r c are.0 rs d are.2 are.1 are.3
+    ∙ ap (λ b. cond b seat.next (length d.node.trace)) (sym (not_zero (length (r ∷ rs)) (omega arith)))
+
+pub after_of : (had has : SeatState) (more : ℕ) (c : Cell) (rs : List Receipt) (d : Cell) → AreReceiptsOf c rs d →
+    more ≡ length rs → AreCalled had more (length d.node.trace) has → has.given ≡ had.given → has ≡ seat_after had rs
+after_of had has more c rs d are many counted given =
+    let calls : has.calls ≡ (seat_after had rs).calls = let after = after_calls had rs in omega (arith, counted.0, many, after) in
+    let next : has.next ≡ (seat_after had rs).next =
+    counted.1
+    ∙ ap (λ n. cond (n == 0) had.next (length d.node.trace)) many
+    ∙ sym (after_next had c rs d are) in
+    λ i. record { calls = calls i; given = (given ∙ sym (after_given had rs)) i; next = next i }
 
 -- ---- a round
 
@@ -217,26 +256,30 @@ round_made was now c new (Ok count) rs shares calls long =
 round_made was now c new (Err fault) rs shares calls long =
     receipts_of_made c (take shares.0.0 (shifts_due c.node was)) new rs shares.0.1 calls long
 
-module _ (config : Config) (seed : List ℕ) (keeps : Bool) (seats had has : ℕ) (was now : List Recalled) where
+module _ (config : Config) (seed : List ℕ) (keeps : Bool) (seats : ℕ) (had has : SeatState)
+    (was now : List Recalled) where
   pub round_of : (answer : Result (Vec Receipt Global) AllocError) →
       IsBatch config seed keeps seats had has (λ k new. IfOk answer (λ rs. SharesWith was now k new rs.items)) →
+      has.given ≡ had.given →
       IfOk answer (λ rs. IsRoundWith config seed keeps seats had has was now rs.items)
-  round_of (Err e) batch = tt
-  round_of (Ok rs) batch =
+  round_of (Err e) batch kept = tt
+  round_of (Ok rs) batch kept =
       let came = batch.came in
       let c = batch.before in
       let d = batch.after in
       let long = accepted_length c.node batch.asks d.node batch.entered.0 in
       let end : record { node = d.node; key = c.key; place = c.place } ≡ d =
       λ i. record { node = d.node; key = sym batch.entered.1 i; place = sym batch.entered.2 i } in
+      let given : AreReceiptsOf c rs.items d =
+      subst (AreReceiptsOf c rs.items) end (round_made was now c d.node came.0 rs.items came.1 came.2 came.3) in
+      let same : length batch.asks ≡ length rs.items = let rest = came.3 in omega (arith, long, rest) in
       record {
         before = c;
         after = d;
         result = came.0;
         since = batch.since;
-        given = subst (AreReceiptsOf c rs.items) end
-            (round_made was now c d.node came.0 rs.items came.1 came.2 came.3);
-        counted = let counts = batch.counted in let rest = came.3 in omega (arith, counts, long, rest);
+        given = given;
+        counted = after_of had has (length batch.asks) c rs.items d given same batch.counted kept;
         came = came.1;
       }
 
@@ -245,4 +288,5 @@ module _ (config : Config) (seed : List ℕ) (keeps : Bool) (seats had has : ℕ
       IfOk answer (λ rs. AreGivenSince config seed had rs.items)
   given_in (Err e) round = tt
   given_in (Ok rs) round =
-      given_of config seed had round.before rs.items round.after round.since.lawful round.since.since round.given
+      given_of config seed had round.before rs.items round.after round.since.0.lawful
+      (round.since.0.since, round.since.1) round.given

@@ -8,7 +8,8 @@ use Rattle.node_calls.specs.Told.{told}
 use Rattle.node_core.specs.Traces.{Kept, call_kept, state_known}
 use Rattle.node_registry.specs.Batches.{IsBatch}
 use Rattle.node_registry.specs.Cells.{Cell, Enters, IsCellSince}
-use Rattle.node_registry.specs.Receipts.{receipt_of}
+use Rattle.node_registry.specs.Receipts.{receipt_of, seat_after}
+use Rattle.node_registry.specs.Seats.{SeatState}
 use Rattle.node_sharing.specs.Made.{AreMade, IsStopped, shifts_due}
 use Rattle.sharing.specs.Memory.{Recalled}
 use Rattle.sharing.specs.Shares.{memory_after}
@@ -21,9 +22,9 @@ Shares was now k new (Ok count) =
     × (now ≡ memory_after (state_known k) k.config.node k.config.nodes was)
 Shares was now k new (Err fault) = IsStopped k (shifts_due k was) new fault × (now ≡ was)
 
--- this came of a round at some lawful cell of the node, made from a seat that had made so many calls, which counts each
--- shift
-abbrev pub IsShareRound : Config → List ℕ → Bool → ℕ → ℕ → ℕ → List Recalled → List Recalled → Result ℕ NodeFault → Type 0
+-- this came of a round at some lawful cell of the node, made from a seat, which counts each shift
+abbrev pub IsShareRound : Config → List ℕ → Bool → ℕ → SeatState → SeatState → List Recalled → List Recalled →
+    Result ℕ NodeFault → Type 0
 IsShareRound config seed keeps seats had has was now result =
     IsBatch config seed keeps seats had has (λ k new. Shares was now k new result)
 
@@ -48,14 +49,13 @@ AreReceiptsOf c [] d = d ≡ c
 AreReceiptsOf c (r ∷ rs) d =
     (e : Cell) × Enters c e r.entry × (r ≡ receipt_of c r.entry) × AreReceiptsOf e rs d
 
--- a round at some lawful cell of the node, made from a seat that had made so many calls, which counts each shift, had
--- these receipts
-pub record IsRoundWith (config : Config) (seed : List ℕ) (keeps : Bool) (seats had has : ℕ) (was now : List Recalled)
-    (receipts : List Receipt) : Type 0 where
+-- a round at some lawful cell of the node, made from a seat, which counts each shift, had these receipts
+pub record IsRoundWith (config : Config) (seed : List ℕ) (keeps : Bool) (seats : ℕ) (had has : SeatState)
+    (was now : List Recalled) (receipts : List Receipt) : Type 0 where
   pub before : Cell
   pub after : Cell
   pub result : Result ℕ NodeFault
   pub since : IsCellSince config seed keeps seats had before
   pub given : AreReceiptsOf before receipts after
-  pub counted : has ≡ had + length receipts
+  pub counted : has ≡ seat_after had receipts
   pub came : Shares was now before.node after.node result

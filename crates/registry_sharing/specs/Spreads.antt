@@ -6,6 +6,7 @@ use Rattle.stamp_register.specs.declared.key.Stamp.{Stamp}
 use Rattle.node_steps.specs.Nodes.{setting_of}
 use Rattle.node_core.specs.Traces.{Kept, state_known}
 use Rattle.node_registry.specs.Batches.{IsBatch}
+use Rattle.node_registry.specs.Seats.{SeatState}
 use Rattle.node_sharing.specs.Made.{AreMade}
 use Rattle.node_sharing.specs.Spread.{IsNotSetSpread, IsNotSpread, IsSetSpread, rights_kept, spread_due}
 
@@ -20,11 +21,12 @@ abbrev pub SetsSpread : List ℕ → List ℕ → Kept → Kept → Result Stamp
 SetsSpread name text k new (Ok stamp) = IsSetSpread k name text stamp new
 SetsSpread name text k new (Err fault) = IsNotSetSpread k name text new fault
 
--- this came of it at some lawful cell of the node, from a seat that had made so many calls, which counts each
-abbrev pub IsSpreadOf : Config → List ℕ → Bool → ℕ → ℕ → ℕ → List ℕ → Result ℕ NodeFault → Type 0
+-- this came of it at some lawful cell of the node, from a seat, which counts each call
+abbrev pub IsSpreadOf : Config → List ℕ → Bool → ℕ → SeatState → SeatState → List ℕ → Result ℕ NodeFault → Type 0
 IsSpreadOf config seed keeps seats had has name result =
     IsBatch config seed keeps seats had has (λ k new. SpreadsSo name k new result)
 
-abbrev pub IsSetSpreadOf : Config → List ℕ → Bool → ℕ → ℕ → ℕ → List ℕ → List ℕ → Result Stamp NodeFault → Type 0
+abbrev pub IsSetSpreadOf : Config → List ℕ → Bool → ℕ → SeatState → SeatState → List ℕ → List ℕ →
+    Result Stamp NodeFault → Type 0
 IsSetSpreadOf config seed keeps seats had has name text result =
     IsBatch config seed keeps seats had has (λ k new. SetsSpread name text k new result)

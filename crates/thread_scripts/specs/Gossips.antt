@@ -4,7 +4,8 @@ use Rattle.std.specs.declared.alloc.AllocError.{AllocError}
 use Rattle.std.specs.declared.alloc.Global.{Global}
 use Rattle.node_steps.specs.declared.config.Config.{Config}
 use Rattle.node_calls.specs.declared.receipt.Receipt.{Receipt}
-use Rattle.node_registry.specs.Receipts.{AreGivenSince}
+use Rattle.node_registry.specs.Receipts.{AreGivenSince, seat_after}
+use Rattle.node_registry.specs.Seats.{SeatState, new_seat}
 use Rattle.sharing.specs.Memory.{Recalled}
 use Rattle.registry_sharing.specs.Rounds.{IsRoundWith}
 use Rattle.audit.specs.Receipts.{Lists}
@@ -32,11 +33,11 @@ abbrev pub AreTold : Config → List ℕ → Place → Place → ℕ → List Re
 AreTold config seed was now rounds receipts =
     (r : GossipReport) × (r.receipts.items ≡ receipts) × (r.ended ≡ ends.Done) × AreRounds config seed was now rounds r
 
--- the shifts by which a node shares its rights in a round, from a seat that had made so many calls, by what was
--- remembered of the round before, and what is remembered of this one: their receipts
-abbrev pub AreShifts : Config → List ℕ → ℕ → List Recalled → List Recalled → List Receipt → Type 0
+-- the shifts by which a node shares its rights in a round, from a seat, by what was remembered of the round before, and
+-- what is remembered of this one: their receipts
+abbrev pub AreShifts : Config → List ℕ → SeatState → List Recalled → List Recalled → List Receipt → Type 0
 AreShifts config seed had was now receipts =
-    (keeps : Bool) × (seats : ℕ) × IsRoundWith config seed keeps seats had (had + length receipts) was now receipts
+    (keeps : Bool) × (seats : ℕ) × IsRoundWith config seed keeps seats had (seat_after had receipts) was now receipts
 
 -- so many rounds of sharing took a wire from its first state to this one, of which this is remembered, and came to
 -- these receipts. Each begins with the shifts that are due, and goes on with its messages
@@ -46,7 +47,7 @@ pub data AreShared (config : Config) (seed : List ℕ) (was : Place)
   next_round : {rounds : ℕ} {memory next : List Recalled} {receipts : List Receipt} {between now : Place}
       (shifts told : List Receipt)
       → AreShared config seed was rounds memory receipts between
-      → AreShifts config seed (length receipts) memory next shifts
+      → AreShifts config seed (seat_after new_seat receipts) memory next shifts
       → AreTold config seed between now 1 told
       → AreShared config seed was (rounds + 1) next (receipts ++ (shifts ++ told)) now
 
@@ -59,7 +60,7 @@ AreOfKind kinds.Sharing config seed was now rounds receipts =
 -- from a seat without a call so many rounds were done over this wire, of the kind that this gossip does
 abbrev pub AreRoundsOf : Config → List ℕ → Place × Rounds → Place → ℕ → List Receipt → Type 0
 AreRoundsOf config seed gossip now rounds receipts =
-    AreGivenSince config seed 0 receipts × AreOfKind gossip.1.kind config seed gossip.0 now rounds receipts
+    AreGivenSince config seed new_seat receipts × AreOfKind gossip.1.kind config seed gossip.0 now rounds receipts
 
 -- as many as it does were done; or none, where the workers beside it had no thread
 abbrev pub IsGossip : Config → List ℕ → Place × Rounds → Place → List Receipt → Type 0

@@ -2,6 +2,7 @@
 
 ghost use Rattle.std.specs.Prelude.{◌≡◌, ◌≤◌, ◌==◌, count_by, map, vec_len, All, IfOk, MatchResult};
 ghost use Rattle.node_registry.specs.Receipts.{AreGivenSince};
+ghost use Rattle.node_registry.specs.Seats.{new_seat};
 ghost use Rattle.thread_plans.specs.Plans.{block_value};
 ghost use Rattle.thread_workers.specs.Workers.{AreListsAt, AreOfWorkers, of_node};
 ghost use Rattle.thread_scripts.specs.Gossips.{AreRoundsOf, IsGossip, count_or};
@@ -31,7 +32,7 @@ pub(crate) struct Gossip {
 pub(crate) struct Gossiper<L: Label> {
     pub seat: Seat<L>,
     pub gossip: Gossip,
-    ghost fresh: { seat ≡ 0 },
+    ghost fresh: { seat ≡ new_seat },
 }
 
 /// What a node's gossip came to, all of which was done from one seat: the receipts of its calls, where
@@ -41,7 +42,7 @@ pub(crate) struct Gossiped<L: Label> {
     pub seat: Seat<L>,
     pub wire: MailWire,
     pub receipts: Result<Vec<Receipt>, AllocError>,
-    ghost counted: { count_or receipts seat ≡ seat },
+    ghost counted: { count_or receipts seat.calls ≡ seat.calls },
 }
 
 /// What workers came to: their seats, and why their calls were refused.
@@ -65,7 +66,7 @@ pub(crate) struct Crew<'a, L: Waiting> {
     pub seats: Vec<Seat<L>>,
     ghost number: { vec_len seats ≤ 65536 },
     ghost each: { vec_len seats ≡ count_by (λ b. b.node == node) blocks.now },
-    ghost fresh: { All (λ calls. calls ≡ 0) seats.items },
+    ghost fresh: { All (λ seat. seat ≡ new_seat) seats.items },
 }
 
 // Does the gossip of a node.

@@ -5,6 +5,7 @@ ghost use Rattle.std.specs.Prelude.{option_map, All, IfOk};
 ghost use Rattle.std.specs.List.{sum_by};
 ghost use Rattle.std.specs.Option.{is_some};
 ghost use Rattle.node_steps.specs.Refusals.{is_bad_config};
+ghost use Rattle.node_registry.specs.Seats.{new_seat};
 ghost use Rattle.thread_plans.specs.Plans.{plan_value};
 ghost use Rattle.thread_scripts.specs.Plays.{AreOfNode, AreOfWork, IsTraceOf};
 ghost use Rattle.thread_workers.specs.Workers.{AreListsAt, of_node};
@@ -70,7 +71,7 @@ fn make_calls_beside<L: Waiting + Send + Sync, R: Threads + Wait + Sync>(
     requires few { vec_len seats < 2 ^ 8 }
     requires each { vec_len seats ≡ count_by (λ b. b.node == node) plan.now.blocks.items
         + cond (is_some gossip) 1 0 }
-    requires fresh { All (λ calls. calls ≡ 0) seats.items }
+    requires fresh { All (λ seat. seat ≡ new_seat) seats.items }
     requires given { AreListsAt L.config L.seed finished.lists.items }
     ensures len { IfOk result (λ all.
         vec_len all.0.seats ≡ vec_len finished.seats + vec_len seats) }
@@ -126,7 +127,7 @@ fn make_calls<L: Waiting + Send + Sync, R: Threads + Wait + Sync>(
     requires few { vec_len seats < 2 ^ 8 }
     requires each { vec_len seats ≡ count_by (λ b. b.node == node) plan.now.blocks.items + 1
         + cond (is_some gossip) 1 0 }
-    requires fresh { All (λ calls. calls ≡ 0) seats.items }
+    requires fresh { All (λ seat. seat ≡ new_seat) seats.items }
     ensures len { IfOk result (λ all. vec_len all.finished.seats ≡ vec_len seats) }
     ensures calls { IfOk result (λ all. AreOfNode L.config L.seed (plan_value plan.now)
         (option_map (λ g. (g.wire, g.rounds)) gossip) L.waits all.finished.lists.items

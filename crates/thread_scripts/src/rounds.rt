@@ -2,7 +2,8 @@
 
 ghost use Rattle.std.specs.Prelude.{◌≡◌, ◌+◌, ◌++◌, List, length, vec_len, IfOk, OnOk};
 ghost use Rattle.node_calls.specs.declared.receipt.Receipt.{Receipt};
-ghost use Rattle.node_registry.specs.Receipts.{AreGivenSince};
+ghost use Rattle.node_registry.specs.Receipts.{AreGivenSince, seat_after};
+ghost use Rattle.node_registry.specs.Seats.{new_seat};
 ghost use Rattle.sharing.specs.Memory.{Recalled};
 ghost use Rattle.thread_scripts.specs.Gossips.{AreOfKind, AreShared, AreShifts, AreTold};
 
@@ -25,7 +26,7 @@ fn tell_rounds<L: Label, R: Wait>(
     wire: &mut StepWire<'_>,
     count: u32,
 ) -> Result<Vec<Receipt>, AllocError>
-    ensures counted { IfOk result (λ rs. seat.new ≡ seat.old + vec_len rs) }
+    ensures counted { IfOk result (λ rs. seat.new ≡ seat_after seat.old rs.items) }
     ensures given { IfOk result (λ rs. AreGivenSince L.config L.seed seat.old rs.items) }
     ensures told { IfOk result (λ rs.
         AreTold L.config L.seed wire.old.mail wire.new.mail count rs.items) }
@@ -48,13 +49,14 @@ fn share_round<L: Label, R: Wait>(
     sharing: &mut Sharing,
     receipts: &mut Vec<Receipt>,
 ) -> Result<(), AllocError>
-    requires counted { seat.old ≡ vec_len receipts.old }
-    requires given { AreGivenSince L.config L.seed 0 receipts.old.items }
-    ensures counted { OnOk result (seat.new ≡ vec_len receipts.new) }
-    ensures given { OnOk result (AreGivenSince L.config L.seed 0 receipts.new.items) }
+    requires counted { seat.old ≡ seat_after new_seat receipts.old.items }
+    requires given { AreGivenSince L.config L.seed new_seat receipts.old.items }
+    ensures counted { OnOk result (seat.new ≡ seat_after new_seat receipts.new.items) }
+    ensures given { OnOk result (AreGivenSince L.config L.seed new_seat receipts.new.items) }
     ensures round { OnOk result ((shifts : List Receipt) × (told : List Receipt)
         × (receipts.new.items ≡ receipts.old.items ++ (shifts ++ told))
-        × AreShifts L.config L.seed (length receipts.old.items) sharing.old sharing.new shifts
+        × AreShifts L.config L.seed (seat_after new_seat receipts.old.items) sharing.old
+        sharing.new shifts
         × AreTold L.config L.seed wire.old.mail wire.new.mail 1 told) }
 {
     let shifts = sharing.share_receipts(rt, alloc, registry, seat)?;
@@ -72,9 +74,9 @@ fn share_rounds<L: Label, R: Wait>(
     wire: &mut StepWire<'_>,
     count: u32,
 ) -> Result<Vec<Receipt>, AllocError>
-    requires { seat.old ≡ 0 }
-    ensures counted { IfOk result (λ rs. seat.new ≡ vec_len rs) }
-    ensures given { IfOk result (λ rs. AreGivenSince L.config L.seed 0 rs.items) }
+    requires { seat.old ≡ new_seat }
+    ensures counted { IfOk result (λ rs. seat.new ≡ seat_after new_seat rs.items) }
+    ensures given { IfOk result (λ rs. AreGivenSince L.config L.seed new_seat rs.items) }
     ensures shared { IfOk result (λ rs. (memory : List Recalled)
         × AreShared L.config L.seed wire.old.mail count memory rs.items wire.new.mail) }
 {
@@ -96,9 +98,9 @@ pub(crate) fn do_rounds<L: Label, R: Wait>(
     wire: &mut StepWire<'_>,
     rounds: Rounds,
 ) -> Result<Vec<Receipt>, AllocError>
-    requires { seat.old ≡ 0 }
-    ensures counted { IfOk result (λ rs. seat.new ≡ vec_len rs) }
-    ensures given { IfOk result (λ rs. AreGivenSince L.config L.seed 0 rs.items) }
+    requires { seat.old ≡ new_seat }
+    ensures counted { IfOk result (λ rs. seat.new ≡ seat_after new_seat rs.items) }
+    ensures given { IfOk result (λ rs. AreGivenSince L.config L.seed new_seat rs.items) }
     ensures rounds { IfOk result (λ rs. AreOfKind rounds.kind L.config L.seed wire.old.mail
         wire.new.mail rounds.count rs.items) }
 {

@@ -2,7 +2,8 @@
 
 ghost use Rattle.std.specs.Prelude.{◌≡◌, ◌≢◌, ◌++◌, ◌∷◌, [], map, vec_len, IfOk, OnOk, Some};
 ghost use Rattle.node_calls.specs.Told.{ask_ref_told};
-ghost use Rattle.node_registry.specs.Receipts.{AreGivenSince};
+ghost use Rattle.node_registry.specs.Receipts.{AreGivenSince, seat_after};
+ghost use Rattle.node_registry.specs.Seats.{new_seat};
 ghost use Rattle.thread_plans.specs.Plans.{start_line_value};
 ghost use Rattle.thread_workers.specs.Calls.{AreMade};
 ghost use Rattle.thread_scripts.specs.Calls.{Adds, AreOfLine, AreOfSpread, AreOfStarts, fault_list};
@@ -36,10 +37,10 @@ fn make_call<L: Label, R: Wait>(
     receipts: &mut Vec<Receipt>,
     refusals: &mut Refusals,
 ) -> Result<Option<NodeFault>, AllocError>
-    requires counted { seat.old ≡ vec_len receipts.old }
-    requires given { AreGivenSince L.config L.seed 0 receipts.old.items }
-    ensures counted { OnOk result (seat.new ≡ vec_len receipts.new) }
-    ensures given { OnOk result (AreGivenSince L.config L.seed 0 receipts.new.items) }
+    requires counted { seat.old ≡ seat_after new_seat receipts.old.items }
+    requires given { AreGivenSince L.config L.seed new_seat receipts.old.items }
+    ensures counted { OnOk result (seat.new ≡ seat_after new_seat receipts.new.items) }
+    ensures given { OnOk result (AreGivenSince L.config L.seed new_seat receipts.new.items) }
     ensures made { IfOk result (λ why. Adds (AreMade L.config L.seed (ask_ref_told call.entry ∷ []))
         receipts.old.items receipts.new.items refusals.old refusals.new (fault_list why)) }
 {
@@ -62,10 +63,10 @@ fn spread_rights<L: Label, R: Wait>(
     name: &str,
     receipts: &mut Vec<Receipt>,
 ) -> Result<(), AllocError>
-    requires counted { seat.old ≡ vec_len receipts.old }
-    requires given { AreGivenSince L.config L.seed 0 receipts.old.items }
-    ensures counted { OnOk result (seat.new ≡ vec_len receipts.new) }
-    ensures given { OnOk result (AreGivenSince L.config L.seed 0 receipts.new.items) }
+    requires counted { seat.old ≡ seat_after new_seat receipts.old.items }
+    requires given { AreGivenSince L.config L.seed new_seat receipts.old.items }
+    ensures counted { OnOk result (seat.new ≡ seat_after new_seat receipts.new.items) }
+    ensures given { OnOk result (AreGivenSince L.config L.seed new_seat receipts.new.items) }
     ensures spread { OnOk result ((more : _) × (receipts.new.items ≡ receipts.old.items ++ more)
         × AreOfSpread L.config L.seed name.now more) }
 {
@@ -89,10 +90,10 @@ fn do_start<L: Label, R: Wait>(
     refusals: &mut Refusals,
 ) -> Result<Option<NodeFault>, AllocError>
     requires node { node ≡ L.config.node }
-    requires counted { seat.old ≡ vec_len receipts.old }
-    requires given { AreGivenSince L.config L.seed 0 receipts.old.items }
-    ensures counted { OnOk result (seat.new ≡ vec_len receipts.new) }
-    ensures given { OnOk result (AreGivenSince L.config L.seed 0 receipts.new.items) }
+    requires counted { seat.old ≡ seat_after new_seat receipts.old.items }
+    requires given { AreGivenSince L.config L.seed new_seat receipts.old.items }
+    ensures counted { OnOk result (seat.new ≡ seat_after new_seat receipts.new.items) }
+    ensures given { OnOk result (AreGivenSince L.config L.seed new_seat receipts.new.items) }
     ensures done { IfOk result (λ why. Adds (AreOfLine L.config L.seed (start_line_value line.now))
         receipts.old.items receipts.new.items refusals.old refusals.new (fault_list why)) }
 {
@@ -135,9 +136,9 @@ pub(crate) fn make_starts<L: Label, R: Wait>(
     node: u8,
 ) -> Result<Started<L>, AllocError>
     requires node { node ≡ L.config.node }
-    requires fresh { seat ≡ 0 }
-    ensures counted { IfOk result (λ done. done.0 ≡ vec_len done.1) }
-    ensures given { IfOk result (λ done. AreGivenSince L.config L.seed 0 done.1.items) }
+    requires fresh { seat ≡ new_seat }
+    ensures counted { IfOk result (λ done. done.0 ≡ seat_after new_seat done.1.items) }
+    ensures given { IfOk result (λ done. AreGivenSince L.config L.seed new_seat done.1.items) }
     ensures done { IfOk result (λ done. AreOfStarts L.config L.seed 0
         (map start_line_value starts.now) done.1.items done.2 done.3.items) }
 {

@@ -6,6 +6,7 @@ use Rattle.node_steps.specs.declared.config.Config.{Config}
 use Rattle.node_calls.specs.declared.receipt.Receipt.{Receipt}
 use Rattle.node_registry.specs.Receipts.{AreGivenSince}
 use Rattle.node_registry.specs.Refusals.{Refusal}
+use Rattle.node_registry.specs.Seats.{new_seat}
 use Rattle.thread_plans.specs.Plans.{BlockValue}
 use Rattle.thread_warnings.specs.Runs.{FaultList, Lists}
 use Rattle.thread_workers.specs.Asks.{asks_of_block}
@@ -13,7 +14,7 @@ use Rattle.thread_workers.specs.Calls.{AreOfThread, faults_of}
 
 -- lists of receipts, each of which a node of this configuration and seed gave one seat from its first call on
 abbrev pub AreListsAt : Config → List ℕ → Lists → Type 0
-AreListsAt config seed lists = All (λ list. AreGivenSince config seed 0 list.items) lists
+AreListsAt config seed lists = All (λ list. AreGivenSince config seed new_seat list.items) lists
 
 -- those of blocks that are a node's
 abbrev pub of_node : ℕ → List BlockValue → List BlockValue

@@ -4,6 +4,7 @@ ghost use Rattle.std.specs.Prelude.{◌≡◌, ◌+◌, ◌++◌, ◌∷◌, [],
 ghost use Rattle.std.specs.Prelude.{count_by, map, vec_len, All, IfOk, OnOk};
 ghost use Rattle.std.specs.List.{filter};
 ghost use Rattle.node_calls.specs.Told.{ask_told};
+ghost use Rattle.node_registry.specs.Seats.{new_seat};
 ghost use Rattle.thread_plans.specs.Plans.{block_value, call_line_value};
 ghost use Rattle.thread_workers.specs.Asks.{asks_of_block, asks_of_line};
 
@@ -49,15 +50,15 @@ fn push_job<'a, L: Label>(
 ) -> Result<(), AllocError>
     requires room { cond (block.now.node == node) 1 0 ≤ vec_len seats.old }
     requires few { All (λ j. vec_len j.asks < 2 ^ 32) jobs.old.items }
-    requires fresh { All (λ j. j.seat ≡ 0) jobs.old.items }
-    requires fresh_seats { All (λ calls. calls ≡ 0) seats.old.items }
+    requires fresh { All (λ j. j.seat ≡ new_seat) jobs.old.items }
+    requires fresh_seats { All (λ seat. seat ≡ new_seat) seats.old.items }
     ensures len { OnOk result
         (vec_len jobs.new ≡ vec_len jobs.old + cond (block.now.node == node) 1 0) }
     ensures seats { OnOk result
         (vec_len seats.new + cond (block.now.node == node) 1 0 ≡ vec_len seats.old) }
     ensures few { OnOk result (All (λ j. vec_len j.asks < 2 ^ 32) jobs.new.items) }
-    ensures fresh { OnOk result (All (λ j. j.seat ≡ 0) jobs.new.items) }
-    ensures fresh_seats { OnOk result (All (λ calls. calls ≡ 0) seats.new.items) }
+    ensures fresh { OnOk result (All (λ j. j.seat ≡ new_seat) jobs.new.items) }
+    ensures fresh_seats { OnOk result (All (λ seat. seat ≡ new_seat) seats.new.items) }
     ensures asks { OnOk result (map (λ j. map ask_told j.asks.items) jobs.new.items
         ≡ map (λ j. map ask_told j.asks.items) jobs.old.items
         ++ cond (block.now.node == node) (asks_of_block (block_value block.now) ∷ []) []) }
@@ -86,10 +87,10 @@ pub(crate) fn jobs_of<'a, L: Label>(
     node: u8,
 ) -> Result<Vec<Job<'a, L>>, AllocError>
     requires each { vec_len seats ≡ count_by (λ b. b.node == node) blocks.now }
-    requires fresh { All (λ calls. calls ≡ 0) seats.items }
+    requires fresh { All (λ seat. seat ≡ new_seat) seats.items }
     ensures len { IfOk result (λ jobs. vec_len jobs ≡ vec_len seats) }
     ensures few { IfOk result (λ jobs. All (λ j. vec_len j.asks < 2 ^ 32) jobs.items) }
-    ensures fresh { IfOk result (λ jobs. All (λ j. j.seat ≡ 0) jobs.items) }
+    ensures fresh { IfOk result (λ jobs. All (λ j. j.seat ≡ new_seat) jobs.items) }
     ensures asks { IfOk result (λ jobs. map (λ j. map ask_told j.asks.items) jobs.items
         ≡ map asks_of_block (filter (λ b. b.node == node) (map block_value blocks.now))) }
 {

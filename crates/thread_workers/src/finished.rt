@@ -1,9 +1,10 @@
 //! Seats that are done.
 
-ghost use Rattle.std.specs.Prelude.{◌≡◌, ◌+◌, ◌++◌, ◌∷◌, [], false, map, sum, vec_len, All, IfOk};
+ghost use Rattle.std.specs.Prelude.{◌≡◌, ◌+◌, ◌++◌, ◌∷◌, [], false, map, vec_len, All, IfOk};
 ghost use Rattle.std.specs.Prelude.{OnOk};
 ghost use Rattle.std.specs.List.{sum_by};
 ghost use Rattle.node_registry.specs.Receipts.{AreGivenSince};
+ghost use Rattle.node_registry.specs.Seats.{calls_from, new_seat};
 ghost use Rattle.thread_workers.specs.Calls.{lack_memory};
 ghost use Rattle.thread_workers.specs.Workers.{AreListsAt};
 
@@ -18,7 +19,7 @@ pub struct Finished<L: Label> {
     pub seats: Vec<Seat<L>>,
     pub lists: Vec<Vec<Receipt>>,
     ghost each: { vec_len lists ≡ vec_len seats },
-    ghost counted: { sum seats.items ≡ sum_by (λ list. vec_len list) lists.items },
+    ghost counted: { calls_from seats.items ≡ sum_by (λ list. vec_len list) lists.items },
 }
 
 // Whether one of these refusals is out of memory.
@@ -45,9 +46,9 @@ impl<L: Label> Finished<L> {
 
     /// With one seat more, and all receipts of its calls.
     pub fn with(self, seat: Seat<L>, receipts: Vec<Receipt>) -> Result<Finished<L>, AllocError>
-        requires counted { seat ≡ vec_len receipts }
+        requires counted { seat.calls ≡ vec_len receipts }
         requires given { AreListsAt L.config L.seed self.lists.items }
-        requires more { AreGivenSince L.config L.seed 0 receipts.items }
+        requires more { AreGivenSince L.config L.seed new_seat receipts.items }
         ensures len { IfOk result (λ all. vec_len all.seats ≡ vec_len self.seats + 1) }
         ensures given { IfOk result (λ all. AreListsAt L.config L.seed all.lists.items) }
         ensures lists { IfOk result (λ all.
@@ -87,9 +88,10 @@ impl<L: Label> Finished<L> {
 
     /// With the seats of workers that are done, where none was refused memory.
     pub(crate) fn with_workers(self, dones: Vec<Done<L>>) -> Result<Finished<L>, AllocError>
-        requires counted { All (λ d. d.seat ≡ vec_len d.receipts) dones.items }
+        requires counted { All (λ d. d.seat.calls ≡ vec_len d.receipts) dones.items }
         requires given { AreListsAt L.config L.seed self.lists.items }
-        requires more { All (λ d. AreGivenSince L.config L.seed 0 d.receipts.items) dones.items }
+        requires more { All (λ d. AreGivenSince L.config L.seed new_seat d.receipts.items)
+            dones.items }
         ensures len { IfOk result (λ all.
             vec_len all.seats ≡ vec_len self.seats + vec_len dones) }
         ensures given { IfOk result (λ all. AreListsAt L.config L.seed all.lists.items) }

@@ -4,6 +4,7 @@ ghost use Rattle.std.specs.Prelude.{◌≡◌, ◌<◌, ◌≤◌, ◌^◌, ◌=
 ghost use Rattle.std.specs.List.{AllZip};
 ghost use Rattle.node_calls.specs.Told.{ask_told};
 ghost use Rattle.node_registry.specs.Receipts.{AreGivenSince};
+ghost use Rattle.node_registry.specs.Seats.{new_seat};
 ghost use Rattle.thread_plans.specs.Plans.{block_value};
 ghost use Rattle.thread_workers.specs.Calls.{HandsBack};
 ghost use Rattle.thread_workers.specs.Workers.{AreListsAt, AreOfWorkers, of_node};
@@ -32,11 +33,12 @@ fn make_calls<L: Waiting + Send + Sync, R: Threads + Wait + Sync>(
 ) -> Result<Vec<Done<L>>, AllocError>
     requires number { vec_len jobs ≤ 65536 }
     requires few { All (λ j. vec_len j.asks < 2 ^ 32) jobs.items }
-    requires fresh { All (λ j. j.seat ≡ 0) jobs.items }
+    requires fresh { All (λ j. j.seat ≡ new_seat) jobs.items }
     ensures len { IfOk result (λ dones. vec_len dones ≡ vec_len jobs.entry) }
-    ensures counted { IfOk result (λ dones. All (λ d. d.seat ≡ vec_len d.receipts) dones.items) }
+    ensures counted { IfOk result (λ dones.
+        All (λ d. d.seat.calls ≡ vec_len d.receipts) dones.items) }
     ensures given { IfOk result (λ dones.
-        All (λ d. AreGivenSince L.config L.seed 0 d.receipts.items) dones.items) }
+        All (λ d. AreGivenSince L.config L.seed new_seat d.receipts.items) dones.items) }
     ensures made { IfOk result (λ dones.
         AllZip (λ j d. HandsBack L.config L.seed (map ask_told j.asks.items) d)
         jobs.entry.items dones.items) }
@@ -69,7 +71,7 @@ pub fn work<L: Waiting + Send + Sync, R: Threads + Wait + Sync>(
 ) -> Result<(Finished<L>, Vec<NodeFault>), AllocError>
     requires number { vec_len seats ≤ 65536 }
     requires each { vec_len seats ≡ count_by (λ b. b.node == node) blocks.now }
-    requires fresh { All (λ calls. calls ≡ 0) seats.items }
+    requires fresh { All (λ seat. seat ≡ new_seat) seats.items }
     ensures len { IfOk result (λ all. vec_len all.0.seats ≡ vec_len seats) }
     ensures given { IfOk result (λ all. AreListsAt L.config L.seed all.0.lists.items) }
     ensures calls { IfOk result (λ all. AreOfWorkers L.config L.seed

@@ -19,7 +19,7 @@ pub fn set_everywhere<L: Label, W: Wire, R: Wait>(
     name: &str,
     text: &str,
 ) -> Result<usize, NodeFault>
-    ensures { IfOk result (λ calls. seat.new ≡ seat.old + calls) }
+    ensures { IfOk result (λ calls. seat.new.calls ≡ seat.old.calls + calls) }
 {
     registry.set(rt, alloc, seat, name, text)?;
     let shares = spread(rt, alloc, registry, seat, name);

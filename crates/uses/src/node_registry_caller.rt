@@ -34,7 +34,7 @@ pub fn triggered<L: Label, R: Wait>(
     seat: &mut Seat<L>,
     point: &Name,
 ) -> Result<Option<Receipt>, NodeFault>
-    ensures { OnOk result (seat.new ≡ seat.old + 1) }
+    ensures { OnOk result (seat.new.calls ≡ seat.old.calls + 1) }
 {
     let passed = registry.pass_point(rt, alloc, seat, point)?;
     match passed.outcome {

@@ -2,6 +2,7 @@
 
 ghost use Rattle.std.specs.Prelude.{◌≡◌, ◌≤◌, ◌+◌, false};
 ghost use Rattle.http_replies.specs.Replies.{http_value};
+ghost use Rattle.node_registry.specs.Seats.{HasSameCalls};
 ghost use Rattle.http_serve.specs.Forgotten.{HandsOut};
 ghost use Rattle.http_serve.specs.Spreads.{AnswersRequest, AnswersRequestFrom, node_labels};
 
@@ -30,8 +31,8 @@ fn forget<L: Label, R: Wait>(
 ) -> Forgotten
     requires { L.keeps ≡ false }
     ensures given { HandsOut L.config L.seed L.keeps L.parts seat.new result.from result.count }
-    ensures all { seat.new ≤ result.from + result.count }
-    ensures same { seat.new ≡ seat.old }
+    ensures all { seat.new.calls ≤ result.from + result.count }
+    ensures same { HasSameCalls seat.old seat.new }
 {
     let Piece { from, trace } = registry.give(rt, alloc, seat);
     Forgotten {
@@ -45,7 +46,7 @@ fn forget<L: Label, R: Wait>(
 struct ForgottenSeat<L: Label> {
     seat: Seat<L>,
     last: Forgotten,
-    ghost forgotten: { seat ≤ last.from + last.count },
+    ghost forgotten: { seat.calls ≤ last.from + last.count },
 }
 
 impl<L: Label> ForgottenSeat<L> {

@@ -7,7 +7,7 @@ ghost use Rattle.http_replies.specs.Replies.{http_value};
 ghost use Rattle.http_routes.specs.Replies.{acceptance_value};
 ghost use Rattle.http_routes.specs.Requests.{wanted};
 ghost use Rattle.http_routes.specs.Requests as requests;
-ghost use Rattle.part_keeper.specs.Outs.{calls_of, out_of, written_of};
+ghost use Rattle.part_keeper.specs.Outs.{out_of, seat_of, written_of};
 ghost use Rattle.spread_routes.specs.Wanted.{spread_wanted};
 ghost use Rattle.http_serve.specs.Recorded.{AnswersRecording, IsNotMade, IsNotRecorded, IsServedRecording};
 ghost use Rattle.http_serve.specs.Recorded.{IsServedWriting, IsSpreadRecording, IsSpreadWriting, TellsFault};
@@ -119,8 +119,8 @@ impl<L: Label> RecordingHandler<L> {
         ask: Ask,
     ) -> HttpReply
         ensures { IsServedWriting W.contents (out_of recording.old) (out_of recording.new)
-            (written_of recording.old) (written_of recording.new) (calls_of recording.old)
-            (calls_of recording.new) L.config L.seed L.keeps L.parts (ask_told ask)
+            (written_of recording.old) (written_of recording.new) (seat_of recording.old)
+            (seat_of recording.new) L.config L.seed L.keeps L.parts (ask_told ask)
             (http_value result) }
     {
         let Ok(room) = ReplyRoom::new(alloc) else {
@@ -179,8 +179,8 @@ impl<L: Label> RecordingHandler<L> {
         body: &[u8],
     ) -> HttpReply
         ensures { IsSpreadWriting W.contents (out_of recording.old) (out_of recording.new)
-            (written_of recording.old) (written_of recording.new) (calls_of recording.old)
-            (calls_of recording.new) L.config L.seed L.keeps L.parts name.now
+            (written_of recording.old) (written_of recording.new) (seat_of recording.old)
+            (seat_of recording.new) L.config L.seed L.keeps L.parts name.now
             (spread_wanted method.now body.now) (http_value result) }
     {
         let mut request = SpreadRequest { method, name, body };

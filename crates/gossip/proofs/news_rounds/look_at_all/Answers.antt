@@ -20,7 +20,7 @@ returns-in_err-pace-clause-breaks g c =
     let was = c.loop-pace.invariant in
     on_err _ (breaks_on c.args.paces.now c.loop-pace.paces c.loop-pace.pace-index _
     (omega (arith, c.loop-pace-test.true, was.long)) was.long was.same was.looks
-    (breaks_since (begun _ _ _ was.looks.adds.counted) c.in_err-pace.ensures.breaks))
+    (breaks_since (begun _ _ _ was.looks.adds.calls) c.in_err-pace.ensures.breaks))
 
 pub loop-pace-preserved : goal.loop-pace-preserved
 loop-pace-preserved g c =
@@ -29,7 +29,7 @@ loop-pace-preserved g c =
     record {
       looks = looks_on c.args.paces.now c.loop-pace.paces c.loop-pace.pace-index _ next
           (omega (arith, c.loop-pace-test.true, was.long)) was.long was.same was.looks
-          (looks_since (begun _ _ _ was.looks.adds.counted) c.in_ok-pace.ensures.looks);
+          (looks_since (begun _ _ _ was.looks.adds.calls) c.in_ok-pace.ensures.looks);
       same = same_on c.args.paces.now c.loop-pace.paces c.loop-pace.pace-index next was.same;
       long = length-set c.loop-pace.paces c.loop-pace.pace-index next ∙ was.long;
     }

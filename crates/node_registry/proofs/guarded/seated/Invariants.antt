@@ -1,5 +1,6 @@
 use Rattle.std.proofs.Common.{◌≡◌, ◌+◌, ◌≤◌, vec_len, vec_capacity}
 use Rattle.std.specs.Prelude.{All}
+use Rattle.node_registry.specs.Seats.{new_seat}
 use Rattle.node_registry.proofs.guarded.seated.Given as goal
 
 abbrev pub invariant-loop : goal.invariant-loop
@@ -8,5 +9,5 @@ invariant-loop g l = record {
   amount : l.rest.amount ≡ 0;
   room : l.fn.seats ≤ vec_capacity l.all;
   len : vec_len l.all ≡ l.counter;
-  none : All (λ calls. calls ≡ 0) l.all.items;
+  none : All (λ seat. seat ≡ new_seat) l.all.items;
 }

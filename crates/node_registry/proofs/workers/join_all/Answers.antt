@@ -14,7 +14,7 @@ loop-worker-preserved g c =
     let pushed = c.push_reserved.ensures in
     let here : MatchResult c.in-Some.worker (λ h. IsDone g.L.Label.config g.L.Label.seed
     (g.G.Gate.says h.promise.gate.value h.promise.worker) (g.G.Gate.hears h.promise.gate.value h.promise.worker)
-    h.promise.was h.promise.asks.value.items c.match-worker.done) (λ e. c.match-worker.done ≡ e) =
+    h.promise.was.value h.promise.asks.value.items c.match-worker.done) (λ e. c.match-worker.done ≡ e) =
     elim c.match-worker.branch [
       | in-Ok w ↦ rw (w.in-Ok.is, w.done-is) w.join-done.ensures
       | in-Err w ↦ rw (w.in-Err.is, w.done-is) refl

@@ -13,9 +13,9 @@ invariant-loop-worker g l =
       room : vec_len l.dones + into_iter_len l.worker-iterator ≤ vec_capacity l.dones;
       each : (rest : _)
           → AllZip (λ w d. MatchResult w (λ h. IsDone g.L.Label.config g.L.Label.seed
-          (says h.promise.gate.value h.promise.worker) (hears h.promise.gate.value h.promise.worker) h.promise.was
+          (says h.promise.gate.value h.promise.worker) (hears h.promise.gate.value h.promise.worker) h.promise.was.value
           h.promise.asks.value.items d) (λ e. d ≡ e)) (into_iter_items l.worker-iterator) rest
           → AllZip (λ w d. MatchResult w (λ h. IsDone g.L.Label.config g.L.Label.seed
-          (says h.promise.gate.value h.promise.worker) (hears h.promise.gate.value h.promise.worker) h.promise.was
+          (says h.promise.gate.value h.promise.worker) (hears h.promise.gate.value h.promise.worker) h.promise.was.value
           h.promise.asks.value.items d) (λ e. d ≡ e)) l.fn.workers.items (l.dones.items ++ rest);
     }

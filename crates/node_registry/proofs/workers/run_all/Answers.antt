@@ -21,7 +21,7 @@ returns-clause-each g c =
     (AllNumbered-through _ _ (λ n t d. IsDone g.L.Label.config g.L.Label.seed (says gate n) (hears gate n) t.job.seat
     t.job.asks.items d)
     (λ n t w d. through_worker (λ m x was asks y. IsDone g.L.Label.config g.L.Label.seed (says x m) (hears x m) was asks
-    y) (λ h. h.promise.worker) (λ h. h.promise.gate.value) (λ h. h.promise.was) (λ h. h.promise.asks.value.items) n
+    y) (λ h. h.promise.worker) (λ h. h.promise.gate.value) (λ h. h.promise.was.value) (λ h. h.promise.asks.value.items) n
     gate t.job.seat t.job.asks.items w d)
     0 (reverse c.args.crew.tasks.items) c.start_all-workers.result.items c.join_all.result.items
     c.start_all-workers.ensures.each c.join_all.ensures)

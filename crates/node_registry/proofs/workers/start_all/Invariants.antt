@@ -13,11 +13,11 @@ invariant-loop-task g l =
       number : l.number + vec_len l.tasks ≤ 65536;
       each : (rest : _)
           → AllNumbered (λ n t w. MatchResult w (λ h. (h.promise.worker ≡ n) × (h.promise.gate.value ≡ l.gate) ×
-          (h.promise.was ≡ t.job.seat) × (h.promise.asks.value.items ≡ t.job.asks.items))
+          (h.promise.was.value ≡ t.job.seat) × (h.promise.asks.value.items ≡ t.job.asks.items))
           (λ d. IsDone g.L.Label.config g.L.Label.seed (says n) (hears n) t.job.seat t.job.asks.items d)) l.number
           (reverse l.tasks.items) rest
           → AllNumbered (λ n t w. MatchResult w (λ h. (h.promise.worker ≡ n) × (h.promise.gate.value ≡ l.gate) ×
-          (h.promise.was ≡ t.job.seat) × (h.promise.asks.value.items ≡ t.job.asks.items))
+          (h.promise.was.value ≡ t.job.seat) × (h.promise.asks.value.items ≡ t.job.asks.items))
           (λ d. IsDone g.L.Label.config g.L.Label.seed (says n) (hears n) t.job.seat t.job.asks.items d)) 0
           (reverse l.fn.tasks.items) (l.workers.items ++ rest);
     }

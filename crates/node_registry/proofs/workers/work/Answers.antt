@@ -4,7 +4,7 @@ use Rattle.std.proofs.lemmas.List.{nil_from_length}
 use Rattle.std.specs.Vec.Iter.{into_iter_items}
 use Rattle.node_registry.specs.Workers.{AreAnswered}
 use Rattle.node_registry.specs.Workers as workers
-use Rattle.node_registry.proofs.SeatReceipts.{given_more}
+use Rattle.node_registry.proofs.SeatReceipts.{after_more, given_more}
 use Rattle.node_registry.proofs.WorkersLemmas.{at_the_end, next_accepted, next_refused, whole}
 use Rattle.node_registry.proofs.workers.work.Goals as goal
 use Rattle.node_registry.proofs.workers.work.Goals.{in-Ok, in-Err, in-None, in-Some+then-not-turn}
@@ -34,14 +34,8 @@ loop-ask-preserved g c =
             few = omega (arith, steps.1);
             room = omega (arith, steps.1, pushed.len, pushed.capacity);
             room_for_faults = omega (arith, steps.1);
-            counted = omega (
-              arith,
-              was.counted,
-              told.counted,
-              pushed.len,
-              w.push_reserved.new.self.ok.0,
-              c.loop-ask.receipts.ok.0,
-            );
+            counted = after_more c.args.task.job.seat c.loop-ask.seat c.enter_noting.new.seat rs new w.in-Ok.receipt
+                was.counted told.counted pushed.items;
             given = given_more config seed c.args.task.job.seat c.loop-ask.seat rs new w.in-Ok.receipt was.given
                 was.counted told.given told.since pushed.items;
             answered = next_accepted config seed says hears all c.loop-ask.index left rest c.in-Some.ask w.in-Ok.receipt

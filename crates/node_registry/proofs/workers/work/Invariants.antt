@@ -1,6 +1,6 @@
-use Rattle.std.proofs.Common.{◌≡◌, ◌+◌, ◌≤◌, ◌<◌, ◌^◌, length, vec_len, vec_capacity}
+use Rattle.std.proofs.Common.{◌≡◌, ◌+◌, ◌≤◌, ◌<◌, ◌^◌, vec_len, vec_capacity}
 use Rattle.std.specs.Vec.Iter.{into_iter_items, into_iter_len}
-use Rattle.node_registry.specs.Receipts.{AreGivenSince}
+use Rattle.node_registry.specs.Receipts.{AreGivenSince, seat_after}
 use Rattle.node_registry.proofs.WorkersLemmas.{SoFar}
 use Rattle.node_registry.proofs.workers.work.Given as goal
 
@@ -11,7 +11,7 @@ invariant-loop-ask g l =
       few : l.index + into_iter_len l.ask-iterator < 2 ^ 32;
       room : vec_len l.receipts + into_iter_len l.ask-iterator ≤ vec_capacity l.receipts;
       room_for_faults : vec_len l.faults + into_iter_len l.ask-iterator ≤ vec_capacity l.faults;
-      counted : l.seat ≡ l.fn.task.job.seat + length l.receipts.items;
+      counted : l.seat ≡ seat_after l.fn.task.job.seat l.receipts.items;
       given : AreGivenSince config g.L.Label.seed l.fn.task.job.seat l.receipts.items;
       answered : SoFar config g.L.Label.seed (g.G.Gate.says l.gate l.worker) (g.G.Gate.hears l.gate l.worker)
           l.fn.task.job.asks.items

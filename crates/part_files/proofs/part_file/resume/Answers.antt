@@ -11,8 +11,8 @@ pub returns-clause-resumed : goal.returns-clause-resumed
 returns-clause-resumed g c =
     let config = g.L.Label.config in
     let seed = g.L.Label.seed in
-    let had = c.args.seat.now in
-    let has = c.gone_on.new.seat in
+    let had = c.args.seat.now.calls in
+    let has = c.gone_on.new.seat.calls in
     let first = c.args.first.now in
     let known = g.I.Read.remaining c.args.input in
     let all : bytes_left g.I.Read.remaining c.in-Ok.reader ≡ known =

@@ -16,7 +16,7 @@ pub loop-number-init : goal.loop-number-init
 loop-number-init g c = record {
   counted = omega arith;
   numbered = refl;
-  goes = so_far_none g.L.Label.config g.L.Label.seed c.args.seat.now
+  goes = so_far_none g.L.Label.config g.L.Label.seed c.args.seat.now.calls
       (bytes_left g.I.Read.remaining c.args.reader.now) (record { calls = 0; bytes = 0 }) refl refl;
   read = λ late. absurd (omega (arith, late));
 }
@@ -24,7 +24,7 @@ loop-number-init g c = record {
 pub returns-in-TooLong-clause-fault : goal.returns-in-TooLong-clause-fault
 returns-in-TooLong-clause-fault g c =
     let left = bytes_left g.I.Read.remaining in
-    too_long g.L.Label.config g.L.Label.seed c.args.seat.now c.loop-number.seat c.loop-number.number
+    too_long g.L.Label.config g.L.Label.seed c.args.seat.now.calls c.loop-number.seat.calls c.loop-number.number
     (left c.args.reader.now) (left c.loop-number.reader) (left c.take_line.new.reader) c.take_line.new.line.items
     c.loop-number.had c.loop-number.invariant.goes (rw c.in-TooLong.is at c.in_ok-take_line.ensures.taken)
     c.loop-number.invariant.numbered
@@ -33,8 +33,8 @@ pub returns-in-Err-clause-fault : goal.returns-in-Err-clause-fault
 returns-in-Err-clause-fault g c =
     let left = bytes_left g.I.Read.remaining in
     subst (λ (f : PartFault). IfSome (left c.args.reader.now)
-    (λ bytes. IsFaultOf g.L.Label.config g.L.Label.seed c.args.seat.now bytes f)) (sym c.in_line.ensures)
-    (fault_at g.L.Label.config g.L.Label.seed c.args.seat.now c.loop-number.seat c.loop-number.number
+    (λ bytes. IsFaultOf g.L.Label.config g.L.Label.seed c.args.seat.now.calls bytes f)) (sym c.in_line.ensures)
+    (fault_at g.L.Label.config g.L.Label.seed c.args.seat.now.calls c.loop-number.seat.calls c.loop-number.number
     (left c.args.reader.now) (left c.loop-number.reader) (left c.take_line.new.reader) c.take_line.new.line.items
     c.loop-number.had c.in-Err.fault c.loop-number.invariant.goes
     (rw c.in-Line.is at c.in_ok-take_line.ensures.taken) c.loop-number.invariant.numbered
@@ -46,10 +46,10 @@ returns-in-Err-clause-fault g c =
 pub loop-number-preserved : goal.loop-number-preserved
 loop-number-preserved g c =
     let left = bytes_left g.I.Read.remaining in
-    let same : c.if-had-eq0.seat ≡ c.repeat_call.new.seat = search rules in
-    let is = subst (λ (n : ℕ). IsRepeated g.L.Label.config g.L.Label.seed c.loop-number.seat n
+    let same : c.if-had-eq0.seat.calls ≡ c.repeat_call.new.seat.calls = search rules in
+    let is = subst (λ (n : ℕ). IsRepeated g.L.Label.config g.L.Label.seed c.loop-number.seat.calls n
     c.take_line.new.line.items) (sym same)
-    (subst (λ (l : List ℕ). IsRepeated g.L.Label.config g.L.Label.seed c.loop-number.seat c.repeat_call.new.seat l)
+    (subst (λ (l : List ℕ). IsRepeated g.L.Label.config g.L.Label.seed c.loop-number.seat.calls c.repeat_call.new.seat.calls l)
     c.as_slice.ensures.value c.in_default.ensures.given) in
     let more : c.with-had.result ≡ with_line c.take_line.new.line.items c.loop-number.had =
     c.with-had.ensures
@@ -61,7 +61,7 @@ loop-number-preserved g c =
     record {
       counted = omega (arith, calls, one, before);
       numbered = omega (arith, calls, number);
-      goes = so_far_more g.L.Label.config g.L.Label.seed c.args.seat.now c.loop-number.seat c.if-had-eq0.seat
+      goes = so_far_more g.L.Label.config g.L.Label.seed c.args.seat.now.calls c.loop-number.seat.calls c.if-had-eq0.seat.calls
           (left c.args.reader.now) (left c.loop-number.reader) (left c.take_line.new.reader)
           c.take_line.new.line.items c.loop-number.had c.with-had.result c.loop-number.invariant.goes
           (rw c.in-Line.is at c.in_ok-take_line.ensures.taken) is more;
@@ -72,6 +72,6 @@ loop-number-preserved g c =
 pub returns-in-End-clause-repeated : goal.returns-in-End-clause-repeated
 returns-in-End-clause-repeated g c =
     let left = bytes_left g.I.Read.remaining in
-    all_repeated g.L.Label.config g.L.Label.seed c.args.seat.now c.loop-number.seat
+    all_repeated g.L.Label.config g.L.Label.seed c.args.seat.now.calls c.loop-number.seat.calls
     (left c.args.reader.now) (left c.loop-number.reader) (left c.take_line.new.reader) c.take_line.new.line.items
     c.loop-number.had c.loop-number.invariant.goes (rw c.in-End.is at c.in_ok-take_line.ensures.taken)

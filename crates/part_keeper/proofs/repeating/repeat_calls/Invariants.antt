@@ -8,10 +8,10 @@ use Rattle.part_keeper.proofs.repeating.repeat_calls.Given as goal
 
 abbrev pub invariant-loop-number : goal.invariant-loop-number
 invariant-loop-number g l = record {
-  counted : l.seat ≡ l.initial.seat + l.had.calls;
+  counted : l.seat.calls ≡ l.initial.seat.calls + l.had.calls;
   numbered : l.number ≡ l.had.calls + 2;
   goes : IfSome (bytes_left g.I.Read.remaining l.initial.reader) (λ bytes.
-      IsSoFar g.L.Label.config g.L.Label.seed l.initial.seat l.seat bytes l.had
+      IsSoFar g.L.Label.config g.L.Label.seed l.initial.seat.calls l.seat.calls bytes l.had
       (bytes_left g.I.Read.remaining l.reader));
   read : 2 < l.number → has_failed (reader_inner l.reader) ≡ false;
 }

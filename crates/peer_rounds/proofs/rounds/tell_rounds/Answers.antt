@@ -12,7 +12,7 @@ loop-round-preserved g c =
     let was = c.loop-round.invariant in
     let first = c.share_first in
     let news = c.gossip_news in
-    let more = calls_of_a_round config g.L.Label.seed (Says g.W.Reach.reached) first.new.seat first.new.seat
+    let more = calls_of_a_round config g.L.Label.seed (Says g.W.Reach.reached) first.new.seat.calls first.new.seat
     news.new.seat (most_peers config) (g.W.Wire.traffic c.keep_calls.new.self) (g.W.Wire.traffic news.new.wire)
     c.greet.new.paces news.new.paces news.result news.ensures.told news.ensures.round news.ensures.broken
     news.ensures.few (omega (arith, c.greet.ensures, was.long, c.requires.peers)) in

@@ -1,9 +1,15 @@
-use Rattle.std.proofs.Common.{◌≡◌, ◌∙◌, ◌++◌, ◌∷◌, [], ap, subst}
+use Rattle.std.proofs.Common.{◌≡◌, ◌∙◌, ◌++◌, ◌∷◌, [], ap, arith, subst}
 use Rattle.std.specs.Prelude.{option_map}
 use Rattle.thread_plans.specs.Plans.{plan_value}
 use Rattle.thread_workers.specs.Workers.{of_node}
+use Rattle.thread_workers.proofs.Seats.{seat_calls}
 use Rattle.thread_scripts.specs.Plays.{AreOfWork}
 use Rattle.thread_scripts.proofs.nodes.make_calls.Goals as goal
+
+pub with-requires-clause-counted : goal.with-requires-clause-counted
+with-requires-clause-counted g c =
+    let calls = seat_calls c.in_ok-seat.seat c.in_ok-seat.receipts.items c.in_ok-seat.ensures.counted in
+    omega (arith, calls, c.in_ok-seat.receipts.ok.0)
 
 pub returns-clause-calls : goal.returns-clause-calls
 returns-clause-calls g c =

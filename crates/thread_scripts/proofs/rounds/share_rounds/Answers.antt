@@ -4,7 +4,7 @@ use Rattle.thread_scripts.proofs.rounds.share_rounds.Goals as goal
 
 pub loop-round-init : goal.loop-round-init
 loop-round-init g c = record {
-  counted = search rules;
+  counted = rw c.new-receipts.ensures.items c.requires;
   given = rw c.new-receipts.ensures.items tt;
   shared = rw (c.new-receipts.ensures.items, c.new-sharing.ensures) no_round;
 }

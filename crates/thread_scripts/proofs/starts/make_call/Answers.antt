@@ -1,6 +1,7 @@
-use Rattle.std.proofs.Common.{◌∙◌, ◌∷◌, [], ap, arith, refl, sym}
+use Rattle.std.proofs.Common.{◌∙◌, ◌∷◌, [], ap, refl, sym}
 use Rattle.std.proofs.lemmas.List.{append-nil}
-use Rattle.node_registry.proofs.SeatReceipts.{given_more}
+use Rattle.node_registry.specs.Seats.{new_seat}
+use Rattle.node_registry.proofs.SeatReceipts.{after_more, given_more}
 use Rattle.thread_scripts.specs.Calls.{fault_list}
 use Rattle.thread_scripts.proofs.StartLines.{made_one, refused_one}
 use Rattle.thread_scripts.proofs.Numbered.{IfOk-map}
@@ -9,9 +10,13 @@ use Rattle.thread_scripts.proofs.starts.make_call.Goals as goal
 pub returns-in_ok-push-in-Ok-clause-given : goal.returns-in_ok-push-in-Ok-clause-given
 returns-in_ok-push-in-Ok-clause-given g c =
     let told = c.in-Ok.ensures in
-    given_more g.L.Label.config g.L.Label.seed 0 c.args.seat.now c.args.receipts.now.items c.push.new.self.items
-    c.in-Ok.receipt c.requires.given (omega (arith, c.requires.counted, c.args.receipts.now.ok.0)) told.given
-    told.since c.in_ok-push-in-Ok.ensures.items
+    given_more g.L.Label.config g.L.Label.seed new_seat c.args.seat.now c.args.receipts.now.items c.push.new.self.items
+    c.in-Ok.receipt c.requires.given c.requires.counted told.given told.since c.in_ok-push-in-Ok.ensures.items
+
+pub returns-in_ok-push-in-Ok-clause-counted : goal.returns-in_ok-push-in-Ok-clause-counted
+returns-in_ok-push-in-Ok-clause-counted g c =
+    after_more new_seat c.args.seat.now c.enter_noting.new.seat c.args.receipts.now.items c.push.new.self.items
+    c.in-Ok.receipt c.requires.counted c.in-Ok.ensures.counted c.in_ok-push-in-Ok.ensures.items
 
 pub returns-in_ok-push-in-Ok-clause-made : goal.returns-in_ok-push-in-Ok-clause-made
 returns-in_ok-push-in-Ok-clause-made g c = (

@@ -5,7 +5,7 @@ use Rattle.thread_scripts.proofs.starts.make_starts.Goals as goal
 
 pub loop-line-init : goal.loop-line-init
 loop-line-init g c = record {
-  counted = search rules;
+  counted = rw c.new-receipts.ensures.items c.requires.fresh;
   given = rw c.new-receipts.ensures.items tt;
   placed = refl;
   done = rw (c.new-receipts.ensures.items, c.new-refusals.ensures, c.new-faults.ensures.items) no_line;

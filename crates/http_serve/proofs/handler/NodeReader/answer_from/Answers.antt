@@ -13,7 +13,7 @@ returns-in-Some g c =
     let has = c.spread.new.seat in
     let asked = wanted c.args.method.now c.args.path.now c.args.body.items in
     spreads_there (IsSpreadFrom config seed g.L.Label.keeps g.L.Ledger.parts had has)
-    (IsServedFrom config seed had has asked) c.args.method.now c.args.path.now c.args.body.items
+    (IsServedFrom config seed had.calls has.calls asked) c.args.method.now c.args.path.now c.args.body.items
     (http_value c.spread.result) c.in-Some.name.now (rw c.in-Some.is at c.spread_name.ensures)
     (rw c.as_slice.ensures.value at c.spread.ensures)
 
@@ -25,5 +25,5 @@ returns-in-None g c =
     let has = c.route.new.seat in
     let asked = wanted c.args.method.now c.args.path.now c.args.body.items in
     answers_there (IsSpreadFrom config seed g.L.Label.keeps g.L.Ledger.parts had has)
-    (IsServedFrom config seed had has asked) c.args.method.now c.args.path.now c.args.body.items
+    (IsServedFrom config seed had.calls has.calls asked) c.args.method.now c.args.path.now c.args.body.items
     (http_value c.route.result) (rw c.in-None.is at c.spread_name.ensures) c.route.ensures

@@ -5,11 +5,13 @@ use Rattle.std.proofs.lemmas.List.Elements.{All-append}
 use Rattle.std.proofs.lemmas.List.Sums.{sum_by-append}
 use Rattle.node_calls.specs.declared.receipt.Receipt.{Receipt}
 use Rattle.node_registry.specs.Receipts.{AreGivenSince}
+use Rattle.node_registry.specs.Seats.{new_seat}
+use Rattle.thread_workers.proofs.Seats.{calls_both}
 use Rattle.thread_workers.proofs.finished.Finished.with_all.Goals as goal
 
 pub invariant_of-result : goal.invariant_of-result
 invariant_of-result g c =
-    let seats = sum_by-append (λ n. n) c.args.self.seats.items c.args.others.seats.items in
+    let seats = calls_both c.args.self.seats.items c.args.others.seats.items in
     let lists = sum_by-append (λ list. vec_len list) c.args.self.lists.items c.args.others.lists.items in
     let was = c.args.self.counted in
     let more = c.args.others.counted in
@@ -23,6 +25,6 @@ invariant_of-result g c =
 
 pub returns-clause-given : goal.returns-clause-given
 returns-clause-given g c =
-    let P : Vec Receipt Global → Type 0 = λ list. AreGivenSince g.L.Label.config g.L.Label.seed 0 list.items in
+    let P : Vec Receipt Global → Type 0 = λ list. AreGivenSince g.L.Label.config g.L.Label.seed new_seat list.items in
     rw c.in_ok-put_behind-2.ensures
     (All-append P c.args.self.lists.items c.args.others.lists.items c.requires.given c.requires.more)

@@ -3,6 +3,7 @@ use Rattle.std.specs.Vec.Iter.{into_iter_items}
 use Rattle.std.proofs.lemmas.List.{append-nil, nil_from_length}
 use Rattle.std.proofs.lemmas.List.Elements.{All-cons, All-nil, All-tail}
 use Rattle.node_registry.specs.Receipts.{AreGivenSince}
+use Rattle.node_registry.specs.Seats.{new_seat}
 use Rattle.thread_workers.specs.Calls.{lack_memory}
 use Rattle.thread_workers.proofs.finished.Finished.with_workers.Goals as goal
 
@@ -17,9 +18,9 @@ loop-done-preserved g c =
     let enough : lack_memory done.faults.items ≡ false = search rules in
     record {
       len = omega (arith, was.len, steps.1, c.in_ok-finished.ensures.len);
-      counted = All-tail (λ d. d.seat ≡ vec_len d.receipts) done rest (rw steps.0 at was.counted);
+      counted = All-tail (λ d. d.seat.calls ≡ vec_len d.receipts) done rest (rw steps.0 at was.counted);
       given = c.in_ok-finished.ensures.given;
-      more = All-tail (λ d. AreGivenSince g.L.Label.config g.L.Label.seed 0 d.receipts.items) done rest
+      more = All-tail (λ d. AreGivenSince g.L.Label.config g.L.Label.seed new_seat d.receipts.items) done rest
           (rw steps.0 at was.more);
       lists = ap (λ ls. ls ++ others) c.in_ok-finished.ensures.lists
           ∙ append_assoc before (done.receipts ∷ []) others
