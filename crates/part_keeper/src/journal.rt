@@ -1,8 +1,9 @@
 //! A journal that is written piece by piece.
 
-ghost use Rattle.std.specs.Prelude.{◌≡◌, ◌≤◌, ◌↔◌, ◌-◌, ◌+◌, true, false, not, length};
+ghost use Rattle.std.specs.Prelude.{◌≡◌, ◌≤◌, ◌<◌, ◌↔◌, ◌-◌, ◌+◌, ◌^◌, true, false, not, length};
 ghost use Rattle.std.specs.Prelude.{IfOk, IfSome, IsErr, IsTrue, OnOk, Some, slice_get};
 ghost use Rattle.streams.specs.Watched.{has_unflushed};
+ghost use Rattle.std.specs.Option.{is_some};
 ghost use Rattle.node_calls.specs.Told.{told};
 ghost use Rattle.packed_trace.specs.Packed.{seen_told};
 ghost use Rattle.part_keeper.specs.Pieces.{HasCall, Writes};
@@ -35,7 +36,7 @@ fn is_told(seen: Seen<'_>, entry: &Entry) -> bool
 
 // Whether a piece has the call of a receipt at its place.
 fn has_call(piece: &Piece, receipt: &Receipt) -> bool
-    ensures { IsTrue result → HasCall piece.now receipt.now }
+    ensures { IsTrue result ↔ HasCall piece.now receipt.now }
 {
     let Some(place) = receipt.index.checked_sub(piece.from) else {
         return false;
@@ -77,8 +78,9 @@ impl<W: Write> Journal<W> {
 
     // How many calls it has with those of a piece, which has to begin where the journal ends.
     fn calls_with(&self, piece: &Piece) -> Option<u64>
-        ensures { IfSome result (λ calls. (piece.now.from ≡ self.now.calls)
-            × (calls ≡ self.now.calls + length piece.now.trace.calls)) }
+        ensures some { (is_some result ≡ true) ↔ ((piece.now.from ≡ self.now.calls)
+            × (self.now.calls + length piece.now.trace.calls < 2 ^ 64)) }
+        ensures calls { IfSome result (λ calls. calls ≡ self.now.calls + length piece.now.trace.calls) }
     {
         if piece.from == self.calls {
             self.calls.checked_add(piece.trace.len() as u64)
