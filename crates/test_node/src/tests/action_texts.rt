@@ -242,6 +242,7 @@ const ORDERS: &[(&str, &str, Ordering)] = &[
     ("10*off", "2*off", Ordering::Less),
     ("off->off", "off", Ordering::Greater),
     ("print(b)", "print(a)->off", Ordering::Greater),
+    ("print(a)", "print(b)", Ordering::Less),
 ];
 
 #[test]

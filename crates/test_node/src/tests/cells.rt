@@ -359,9 +359,13 @@ fn budget(alloc: Global, calls: &[Call]) -> Result<Budget, CounterFault> {
     Ok(budget)
 }
 
-const A_SPEND_AND_A_SHIFT: &[Call] = &[Call::RaiseSpent(0, 1), Call::RaiseMoved(0, 1, 1)];
+const A_SPEND_AND_A_SHIFT: &[Call] = &[Call::RaiseSpent(0, 2), Call::RaiseMoved(0, 1, 1)];
 
-const TWO_SHIFTS: &[Call] = &[Call::RaiseMoved(0, 1, 2), Call::RaiseMoved(1, 0, 1)];
+const TWO_SHIFTS: &[Call] = &[
+    Call::RaiseSpent(0, 1),
+    Call::RaiseMoved(0, 1, 2),
+    Call::RaiseMoved(1, 0, 1),
+];
 
 #[test]
 fn joins_of_budgets(rt: HostRuntime) -> Result<(), Fail> {
@@ -371,7 +375,7 @@ fn joins_of_budgets(rt: HostRuntime) -> Result<(), Fail> {
         budget(alloc, TWO_SHIFTS),
     )?;
     let orders = ((false, false), false);
-    let wanted = ((1, 2, 0, 0), (0, 1, 1, 0));
+    let wanted = ((2, 2, -1, 0), (0, 1, 1, 0));
     expect_joins(&rt, alloc, both, orders, seen, &wanted)?;
     Ok(())
 }

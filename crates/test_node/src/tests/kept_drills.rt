@@ -93,6 +93,11 @@ const BAD: &[(&str, u64)] = &[
     ("{\"from\":0,\"list\":0}", 4),
     ("{\"list\":\"0\"}", 4),
     ("{\"list\":0}\n{\"trace\":1}", 5),
+    ("{\"list\":0}\n{\"from\":0,\"list\":0}", 5),
+    (
+        "{\"cap\":100,\"failreg\":\"part\",\"node\":0,\"nodes\":2,\"run\":\"today\",\"version\":1}",
+        4,
+    ),
     (
         "{\"list\":0}\n{\"ask\":[\"emit\",1],\"reply\":[\"same\"],\"words\":[]}",
         5,
@@ -140,6 +145,18 @@ const BAD: &[(&str, u64)] = &[
     (
         "{\"ask\":[\"emit\",1],\"reply\":[\"same\"],\"words\":[],\"more\":0}",
         4,
+    ),
+];
+
+// Texts of the second version, and the line of each that is bad.
+const BAD_PIECES: &[(&str, u64)] = &[
+    (
+        "{\"failreg\":\"drill\",\"version\":2}\n{\"trace\":0}\n{\"from\":1,\"trace\":0}",
+        3,
+    ),
+    (
+        "{\"failreg\":\"drill\",\"version\":2}\n{\"trace\":0}\n{\"list\":0}\n{\"ask\":[\"emit\",1],\"index\":0,\"node\":0,\"reply\":[\"same\"],\"words\":[]}\n{\"from\":0,\"list\":0}",
+        5,
     ),
 ];
 
@@ -206,6 +223,9 @@ fn bad_lines(rt: HostRuntime) -> Result<(), Fail> {
     for (text, line) in BAD {
         let whole = behind_an_entry(rt.alloc(), text)?;
         expect_bad_line(&rt, rt.alloc(), &whole, *line);
+    }
+    for (text, line) in BAD_PIECES {
+        expect_bad_line(&rt, rt.alloc(), text, *line);
     }
     Ok(())
 }

@@ -55,6 +55,7 @@ const PAIRS: &[(Numbers, Numbers, Numbers, (bool, bool))] = &[
     ((4, 1), (4, 3), (4, 3), (true, false)),
     ((4, 3), (5, 6), (5, 6), (true, false)),
     ((0, 0), (0, 0), (0, 0), (true, true)),
+    ((0, 3), (0, 1), (0, 3), (false, true)),
 ];
 
 /// Pairs join part by part.

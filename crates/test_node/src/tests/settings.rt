@@ -180,6 +180,9 @@ const ORDERS: &[(&str, &str, Ordering)] = &[
     ("a", "a.b", Ordering::Less),
     ("a", "a", Ordering::Equal),
     ("b", "a.b", Ordering::Greater),
+    ("raft.store-1", "raft.store-2", Ordering::Less),
+    ("abcdefghi", "abcdefgh", Ordering::Greater),
+    ("abcdefghi", "abcdefghi", Ordering::Equal),
 ];
 
 #[test]

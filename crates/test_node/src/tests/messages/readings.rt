@@ -320,6 +320,16 @@ const CELLS: &[Reading] = &[
         Bytes::First(&ONE_NAME, 61, &[&[0, 2, 0], &HIT, &[0], &HIT, &[0, 0]]),
         "W9 CellOrder offset=73",
     ),
+    // A term that is there, and isn't counted.
+    (
+        2,
+        Bytes::First(
+            &ONE_NAME,
+            44,
+            &[&[0, 3], b"off", &[0, 0, 1, 0], &HIT, &[0, 0]],
+        ),
+        "W11 BadTerm offset=52",
+    ),
 ];
 
 const SHIFTS: &[Reading] = &[
@@ -390,6 +400,19 @@ const SHIFTS: &[Reading] = &[
             &[
                 &[0, 2],
                 &[0, 1, 0, 0, 0, 0, 0, 0, 0, 0, 1],
+                &[0, 0, 1, 0, 0, 0, 0, 0, 0, 0, 9],
+            ],
+        ),
+        "W9 CellOrder offset=86",
+    ),
+    (
+        2,
+        Bytes::First(
+            &ONE_NAME,
+            73,
+            &[
+                &[0, 2],
+                &[0, 0, 1, 0, 0, 0, 0, 0, 0, 0, 9],
                 &[0, 0, 1, 0, 0, 0, 0, 0, 0, 0, 9],
             ],
         ),
