@@ -5,6 +5,7 @@
 
 mod audited_workers;
 mod audits;
+mod batches;
 mod callers;
 mod calls;
 mod draws;
@@ -23,6 +24,7 @@ mod registry;
 mod requests;
 mod resumed;
 mod rounds;
+mod served;
 mod spreads;
 mod stage;
 mod workers;

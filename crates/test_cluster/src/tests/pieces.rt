@@ -13,7 +13,7 @@ trait Forgets {
     fn enter(&mut self, alloc: Global, ask: AskRef<'_>) -> Result<(), NodeFault>;
 
     /// Takes the calls that the node keeps.
-    fn give(&mut self, alloc: Global) -> Size;
+    fn give(&mut self, alloc: Global) -> Option<Size>;
 
     /// Returns the index in the receipt of the call at this index, if there is one.
     fn place(&mut self, alloc: Global, index: u64) -> Result<Option<u64>, AllocError>;
@@ -42,9 +42,9 @@ impl<L: Label> Forgets for Under<L> {
         Ok(())
     }
 
-    fn give(&mut self, alloc: Global) -> Size {
+    fn give(&mut self, alloc: Global) -> Option<Size> {
         self.guarded.audit(&mut self.seat);
-        size(self.guarded.give(alloc, &mut self.seat))
+        Some(size(self.guarded.give(alloc, &mut self.seat)?))
     }
 
     fn place(&mut self, alloc: Global, index: u64) -> Result<Option<u64>, AllocError> {
@@ -68,8 +68,8 @@ impl<L: Label, R: Wait> Forgets for Behind<'_, L, R> {
         Ok(())
     }
 
-    fn give(&mut self, alloc: Global) -> Size {
-        size(self.registry.give(self.rt, alloc, &mut self.seat))
+    fn give(&mut self, alloc: Global) -> Option<Size> {
+        Some(size(self.registry.give(self.rt, alloc, &mut self.seat)))
     }
 
     fn place(&mut self, alloc: Global, index: u64) -> Result<Option<u64>, AllocError> {
@@ -102,9 +102,9 @@ const PLACES: &[(u64, Option<u64>)] = &[(0, None), (2, None), (3, Some(3)), (4, 
 fn expect_pieces<F: Forgets>(rt: &impl Abort, alloc: Global, node: &mut F) -> Result<(), Fail> {
     for (ask, wanted) in CALLS {
         node.enter(alloc, *ask)?;
-        expect(rt, &node.give(alloc), wanted);
+        expect(rt, &node.give(alloc), &Some(*wanted));
     }
-    expect(rt, &node.give(alloc), &(3, 0));
+    expect(rt, &node.give(alloc), &Some((3, 0)));
     node.enter(alloc, PASS)?;
     for (index, wanted) in PLACES {
         expect(
