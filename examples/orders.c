@@ -1,4 +1,5 @@
 /* One failpoint in a C program: FAILPOINTS='save=2*return->off' loses two orders.
+ * With a package, docs/how-to/c.md has the paths. In the repository:
  *
  *     cc -I embedding examples/orders.c embedding/lib/libfailreg.a -o orders */
 #include "failreg.h"

@@ -1,4 +1,5 @@
 // One failpoint in a Go program, through cgo: FAILPOINTS='save=2*return->off' loses two orders.
+// With a package, docs/how-to/migrate.md has the paths. In the repository:
 //
 //	export CGO_CFLAGS="-I$PWD/embedding" CGO_LDFLAGS="$PWD/embedding/lib/libfailreg.a"
 //	go run examples/orders.go
