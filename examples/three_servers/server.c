@@ -65,8 +65,10 @@ static int listening(unsigned port)
     struct sockaddr_in at;
     int s = socket_at(port, &at), one = 1;
     if (s < 0 || setsockopt(s, SOL_SOCKET, SO_REUSEADDR, &one, sizeof one) != 0
-        || bind(s, (struct sockaddr *)&at, sizeof at) != 0 || listen(s, 64) != 0)
-        stop("the port can't be listened on");
+        || bind(s, (struct sockaddr *)&at, sizeof at) != 0 || listen(s, 64) != 0) {
+        fprintf(stderr, "server: cannot listen on 127.0.0.1:%u: choose another port\n", port);
+        exit(1);
+    }
     return s;
 }
 
