@@ -1,5 +1,7 @@
 //! Chunked bodies (RFC 9112, section 7.1).
 
+use std::collections::TryReserveError;
+
 /// The longest line with a chunk's size, and the longest trailer, in bytes.
 const MAX_LINE: usize = 4_096;
 const MAX_BEHIND: usize = 8_192;
@@ -11,6 +13,16 @@ pub enum ChunkFault {
     Bad,
     /// It is too long.
     TooLong,
+    /// An allocation for it failed.
+    NoMemory,
+}
+
+/// Adds bytes to a body. A failed allocation is an error: whoever sends a body doesn't decide
+/// whether the program goes on.
+pub fn extend(body: &mut Vec<u8>, bytes: &[u8]) -> Result<(), TryReserveError> {
+    body.try_reserve(bytes.len())?;
+    body.extend_from_slice(bytes);
+    Ok(())
 }
 
 /// What the next byte belongs to.
@@ -53,7 +65,7 @@ impl Chunks {
                 Place::End => break,
                 Place::Chunk(left) => {
                     let (part, rest) = bytes.split_at(left.min(bytes.len()));
-                    self.body.extend_from_slice(part);
+                    extend(&mut self.body, part).map_err(|_| ChunkFault::NoMemory)?;
                     self.place = match left - part.len() {
                         0 => Place::Behind,
                         left => Place::Chunk(left),

@@ -27,6 +27,8 @@ impl From<io::Error> for Fault {
     }
 }
 
+/// An allocation for the body failed. The response takes none.
+pub(crate) const NO_MEMORY: Fault = Fault::Reply(503, "");
 pub(crate) const BAD_LINE: Fault =
     Fault::Reply(400, "bad request line: send it as GET /fail HTTP/1.1");
 const BAD_FIELD: Fault = Fault::Reply(400, "bad field: send each as Name: value, ended by CR LF");

@@ -1,11 +1,11 @@
 //! The subset of HTTP/1.1 that a served node supports: one request per connection, with a
 //! Content-Length or a chunked body.
 
-use crate::chunks::{ChunkFault, Chunks};
+use crate::chunks::{ChunkFault, Chunks, extend};
 use crate::date::date_of;
 use crate::heads::{
-    BAD_LINE, Fault, Head, LONG_HEAD, LONG_TARGET, Length, MAX_BODY, MAX_HEAD, end_of_head,
-    head_of, is_no_head, methods_at,
+    BAD_LINE, Fault, Head, LONG_HEAD, LONG_TARGET, Length, MAX_BODY, MAX_HEAD, NO_MEMORY,
+    end_of_head, head_of, is_no_head, methods_at,
 };
 use crate::key::Key;
 use crate::page::POLICY;
@@ -21,6 +21,14 @@ const WHOLE_TIME: Duration = Duration::from_secs(10);
 
 /// How long a client may continue sending ignored bytes, so that it gets to reading the response.
 const DRAIN_TIME: Duration = Duration::from_secs(1);
+
+// Returns room for this many bytes of a body.
+fn piece_of(size: usize) -> Result<Vec<u8>, Fault> {
+    let mut piece = Vec::new();
+    piece.try_reserve_exact(size).map_err(|_| NO_MEMORY)?;
+    piece.resize(size, 0);
+    Ok(piece)
+}
 
 /// A connection with a client, which has a time limit for its request and the response.
 pub struct Connection<'a> {
@@ -94,13 +102,12 @@ impl<'a> Connection<'a> {
     fn read_told(&mut self, length: usize, is_expecting: bool) -> Result<Vec<u8>, Fault> {
         let mut body = std::mem::take(&mut self.rest);
         self.go_on(is_expecting && body.len() < length)?;
-        let mut piece = Vec::new();
+        // One byte more, to detect a body that is longer than its length.
+        let mut piece = piece_of((length + 1).min(PIECE))?;
         while body.len() < length {
-            // One byte more, to detect a body that is longer than its length.
-            let left = length - body.len() + 1;
-            piece.resize(left.min(PIECE), 0);
+            piece.truncate(length - body.len() + 1);
             let read = self.read_by(&mut piece, self.end())?;
-            body.extend_from_slice(&piece[..read]);
+            extend(&mut body, &piece[..read]).map_err(|_| NO_MEMORY)?;
         }
         self.has_more = body.len() > length;
         body.truncate(length);
@@ -111,7 +118,7 @@ impl<'a> Connection<'a> {
         let mut chunks = Chunks::new(MAX_BODY);
         let mut came = std::mem::take(&mut self.rest);
         self.go_on(head.is_expecting && came.is_empty())?;
-        let mut piece = vec![0; PIECE];
+        let mut piece = piece_of(PIECE)?;
         loop {
             match chunks.take(&came) {
                 Ok(Some(behind)) => {
@@ -121,10 +128,11 @@ impl<'a> Connection<'a> {
                 Ok(None) => {}
                 Err(ChunkFault::Bad) => return Err(Fault::Gone),
                 Err(ChunkFault::TooLong) => return Err(head.too_long()),
+                Err(ChunkFault::NoMemory) => return Err(NO_MEMORY),
             }
             let read = self.read_by(&mut piece, self.end())?;
             came.clear();
-            came.extend_from_slice(&piece[..read]);
+            extend(&mut came, &piece[..read]).map_err(|_| NO_MEMORY)?;
         }
     }
 
@@ -145,7 +153,9 @@ impl<'a> Connection<'a> {
     /// before the client has the response.
     pub fn drain(&mut self) {
         let end = self.end().min(Instant::now() + DRAIN_TIME);
-        let mut piece = vec![0; PIECE];
+        let Ok(mut piece) = piece_of(PIECE) else {
+            return;
+        };
         while let Ok(1..) = read_by(self.stream, &mut piece, end) {}
     }
 }
