@@ -3,7 +3,7 @@
 ghost use Rattle.std.specs.Prelude.{◌≡◌, ◌≢◌, MatchOption};
 ghost use Rattle.node_for_c.specs.Numbers.{closed};
 ghost use Rattle.node_for_c.specs.Calls.{Both};
-ghost use Rattle.node_for_c.specs.Answered.{IsAnswered, IsNoRequest, MayLackMemory};
+ghost use Rattle.node_for_c.specs.Answered.{IsAnsweredWith, IsNoRequest};
 
 use node_for_c::{CLOSED, Node};
 use std::alloc::Global;
@@ -19,11 +19,9 @@ pub extern "C" fn failreg_answer(
     body: &[u8],
     status: &mut u16,
 ) -> u32
-    ensures ok { result ≡ 0 → Both node.old.handle.kept node.new.handle.kept
-        (IsAnswered method.now path.now body.now status.new) }
     // That memory was refused is told only where memory was needed.
-    ensures memory { result ≡ 0 → Both node.old.handle.kept node.new.handle.kept
-        (MayLackMemory method.now path.now body.now status.new) }
+    ensures ok { result ≡ 0 → Both node.old.handle.kept node.new.handle.kept
+        (IsAnsweredWith method.now path.now body.now status.new) }
     ensures refused { result ≢ 0 → MatchOption node.old.handle.kept (result ≡ closed)
         (λ _. IsNoRequest method.now path.now result) }
     ensures same { result ≢ 0 → node.new.handle.kept ≡ node.old.handle.kept }
@@ -33,8 +31,16 @@ pub extern "C" fn failreg_answer(
         *status = 0;
         return CLOSED;
     };
-    let (refusal, told) = registry.answer(alloc, method, path, body);
+    let answered = registry.answer(alloc, method, path, body);
     *node = Node::of(registry);
-    *status = told;
-    refusal
+    match answered {
+        Ok(answer) => {
+            *status = answer.status;
+            0
+        }
+        Err(code) => {
+            *status = 0;
+            code
+        }
+    }
 }

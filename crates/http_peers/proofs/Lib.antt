@@ -1,6 +1,5 @@
 mod Asking
 mod Commas
-pub mod Crossing
 mod Lasting
-mod Refusing
+mod Naming
 mod Senders

@@ -4,7 +4,7 @@ use Rattle.std.specs.Prelude.{slice_get, if◌then◌else◌}
 use Rattle.std.specs.List.{list_any}
 use Rattle.message_format.specs.Messages.{EntryValue, MessageValue}
 use Rattle.message_format.specs.Spelling.{magic, form_of, has_grants, message_bytes, versions_bytes, entries_bytes}
-use Rattle.http_peers.specs.Kinds.{sender_of}
+use Rattle.http_peers.specs.Senders.{sender_of}
 
 -- an entry that tells a grant: a message of it has the one form, and one of no entry the other
 abbrev granting : EntryValue

@@ -1,13 +1,10 @@
 -- What is answered where it is known who of the other nodes was heard.
-use Rattle.std.specs.Prelude.{◌≡◌, ℕ, ◌==◌, Bool, List, ◌++◌, length, codes, decimal, Option, MatchBool, MatchOption}
-use Rattle.http_replies.specs.Replies.{ReplyValue, IsReply, text_reply}
+use Rattle.std.specs.Prelude.{◌≡◌, ℕ, ◌==◌, Bool, List, ◌++◌, codes, decimal, Option, MatchBool}
+use Rattle.http_routes.specs.Replies.{ReplyValue, IsReply, text_reply}
 use Rattle.http_peers.specs.declared.heard.Cluster.{Cluster}
 use Rattle.http_peers.specs.declared.heard.Row.{Row}
 use Rattle.http_peers.specs.declared.heard.Hearing.{Hearing}
-use Rattle.http_peers.specs.declared.kind.Kind.{Kind}
-use Rattle.http_peers.specs.declared.kind.Kind.TheVariants.{Call, Delivery, Status, Other}
 use Rattle.http_peers.specs.Heard.{awaited, waits_for}
-use Rattle.http_peers.specs.Kinds.{kind_of}
 use Rattle.http_peers.specs.Shown.{with_peers}
 
 -- that calls wait for a node
@@ -36,24 +33,3 @@ IsWithPeers cluster rows inner given =
 -- with some rows
 abbrev pub IsShown : Cluster → ReplyValue → ReplyValue → Type 0
 IsShown cluster inner given = (rows : List Row) × IsWithPeers cluster rows inner given
-
--- by some rows the call waits for a node, or it is answered by the handler
-abbrev pub IsAnsweredCall : Hearing → Cluster → (ReplyValue → Type 0) → ReplyValue → Type 0
-IsAnsweredCall hearing cluster answers given =
-    (node : Option ℕ) × IsAwaited hearing cluster node × MatchOption node (answers given) (λ n. IsWaiting n given)
-
--- a status is the handler's with the rows in it
-abbrev pub IsAnsweredStatus : Cluster → (ReplyValue → Type 0) → ReplyValue → Type 0
-IsAnsweredStatus cluster answers given = (inner : ReplyValue) × answers inner × IsShown cluster inner given
-
-abbrev pub IsAnsweredAs : Kind → Hearing → Cluster → (ReplyValue → Type 0) → ReplyValue → Type 0
-IsAnsweredAs Call hearing cluster answers given = IsAnsweredCall hearing cluster answers given
-IsAnsweredAs Status hearing cluster answers given = IsAnsweredStatus cluster answers given
-IsAnsweredAs Delivery hearing cluster answers given = answers given
-IsAnsweredAs Other hearing cluster answers given = answers given
-
--- a call may have to wait, a status has the rows in it, and any other request is answered by the handler
-abbrev pub AnswersWithPeers : Hearing → Cluster → (List ℕ → List ℕ → List ℕ → ReplyValue → Type 0) → List ℕ →
-    List ℕ → List ℕ → ReplyValue → Type 0
-AnswersWithPeers hearing cluster answers method path body given =
-    IsAnsweredAs (kind_of method path (length body)) hearing cluster (answers method path body) given

@@ -1,6 +1,8 @@
--- Why messages are refused, as a reply says it.
-use Rattle.std.specs.Prelude.{ℕ, ◌==◌, Bool, List, [], ◌∷◌, ◌++◌, length, take, find, bytes_eq, codes, if◌then◌else◌, Option, Some, None}
-use Rattle.http_replies.specs.Replies.{ReplyValue}
+-- Why messages are refused, by the fault that a reply carries.
+use Rattle.std.specs.Prelude.{ℕ, ◌==◌, List, [], ◌∷◌, codes, if◌then◌else◌, Option, Some, None}
+use Rattle.node_calls.specs.declared.fault.NodeFault.{NodeFault}
+use Rattle.node_calls.specs.declared.fault.NodeFault.TheVariants as faults
+use Rattle.http_routes.specs.Replies.{ReplyValue}
 use Rattle.http_peers.specs.declared.code.Code.{Code}
 use Rattle.http_peers.specs.declared.code.Code.TheVariants.{TraceFull, BadMessage, NotForMe, OwnAhead, AckAhead, Overspent, OutOfMemory, TooManyPoints}
 use Rattle.http_peers.specs.declared.code.Outcome.{Outcome}
@@ -32,21 +34,27 @@ place_of Overspent = 5
 place_of OutOfMemory = 6
 place_of TooManyPoints = 7
 
--- a refusal begins with its code and a space
-abbrev pub code_front : Code → List ℕ
-code_front code = code_name code ++ codes " "
-
-abbrev pub has_front : List ℕ → Code → Bool
-has_front body code = bytes_eq (take (length (code_front code)) body) (code_front code)
-
--- the code with which a body begins, if it begins with one
-abbrev pub code_in : List ℕ → Option Code
-code_in body = find (has_front body) all_codes
+-- the code of a fault, if a message may be refused so
+abbrev pub code_of : NodeFault → Option Code
+code_of faults.TraceFull = Some TraceFull
+code_of faults.TooManyPoints = Some TooManyPoints
+code_of (faults.BadMessage fault) = Some BadMessage
+code_of faults.NotForMe = Some NotForMe
+code_of faults.OwnAhead = Some OwnAhead
+code_of faults.AckAhead = Some AckAhead
+code_of faults.Overspent = Some Overspent
+code_of faults.OutOfMemory = Some OutOfMemory
+code_of _ = None
 
 abbrev pub refused_by : Option Code → Outcome
 refused_by (Some code) = Refused code
 refused_by None = Untold
 
+-- what a message came to by the fault of a reply that doesn't accept it
+abbrev pub unaccepted : Option NodeFault → Outcome
+unaccepted (Some fault) = refused_by (code_of fault)
+unaccepted None = Untold
+
 -- what a message came to by the reply to it
 abbrev pub outcome_of : ReplyValue → Outcome
-outcome_of reply = if reply.status == 200 then Accepted else refused_by (code_in reply.body)
+outcome_of reply = if reply.status == 200 then Accepted else unaccepted reply.fault

@@ -1,11 +1,11 @@
-//! Why messages are refused, as a reply says it.
+//! Why messages are refused, by the fault that a reply carries.
 
-ghost use Rattle.std.specs.Prelude.{◌≡◌, take, length, bytes_eq};
-ghost use Rattle.http_replies.specs.Replies.{http_value};
-ghost use Rattle.http_peers.specs.Codes.{code_front, code_in, code_name, has_front};
-ghost use Rattle.http_peers.specs.Codes.{outcome_of, place_of};
+ghost use Rattle.std.specs.Prelude.{◌≡◌};
+ghost use Rattle.http_routes.specs.Replies.{http_value};
+ghost use Rattle.http_peers.specs.Codes.{code_name, code_of, outcome_of, place_of};
 
-use http_replies::HttpReply;
+use http_routes::HttpReply;
+use node_calls::NodeFault;
 
 /// How many codes there are with which a node refuses a message.
 pub(crate) const CODES: usize = 8;
@@ -50,7 +50,7 @@ pub(crate) enum Outcome {
     Accepted,
     /// It was refused so.
     Refused(Code),
-    /// Its reply has no code of a refusal, as where memory for the reply was refused.
+    /// Its reply has no such fault, for example because memory for the reply was refused.
     Untold,
 }
 
@@ -86,38 +86,34 @@ impl Code {
             Code::TooManyPoints => 7,
         }
     }
-
-    // With what the text of such a refusal begins.
-    fn front(self) -> &'static [u8]
-        ensures { result.now ≡ code_front self }
-    {
-        match self {
-            Code::TraceFull => b"N1 ",
-            Code::BadMessage => b"N16 ",
-            Code::NotForMe => b"N17 ",
-            Code::OwnAhead => b"N18 ",
-            Code::AckAhead => b"N19 ",
-            Code::Overspent => b"N20 ",
-            Code::OutOfMemory => b"N22 ",
-            Code::TooManyPoints => b"N4 ",
-        }
-    }
-
-    // Whether a text is such a refusal's.
-    fn begins(self, body: &[u8]) -> bool
-        ensures { result ≡ has_front body.now self }
-    {
-        let front = self.front();
-        let (start, _) = body.split_at(front.len().min(body.len()));
-        start == front
-    }
 }
 
-// The code with which a text begins.
-fn code_in(body: &[u8]) -> Option<Code>
-    ensures { result ≡ code_in body.now }
+// The code of a fault, if a message may be refused so.
+fn code_of(fault: NodeFault) -> Option<Code>
+    ensures { result ≡ code_of fault }
 {
-    ALL_CODES.iter().copied().find(|code| code.begins(body))
+    match fault {
+        NodeFault::TraceFull => Some(Code::TraceFull),
+        NodeFault::TooManyPoints => Some(Code::TooManyPoints),
+        NodeFault::BadMessage(_) => Some(Code::BadMessage),
+        NodeFault::NotForMe => Some(Code::NotForMe),
+        NodeFault::OwnAhead => Some(Code::OwnAhead),
+        NodeFault::AckAhead => Some(Code::AckAhead),
+        NodeFault::Overspent => Some(Code::Overspent),
+        NodeFault::OutOfMemory => Some(Code::OutOfMemory),
+        NodeFault::BadName
+        | NodeFault::BadActions(_)
+        | NodeFault::ClockFull
+        | NodeFault::NotSet
+        | NodeFault::NoSuchTerm
+        | NodeFault::NotCounted
+        | NodeFault::BadNode
+        | NodeFault::ZeroAmount
+        | NodeFault::TooFewRights { .. }
+        | NodeFault::CellFull
+        | NodeFault::BadWords { .. }
+        | NodeFault::BadConfig => None,
+    }
 }
 
 /// What a message came to, by the reply to it.
@@ -127,7 +123,7 @@ pub(crate) fn outcome_of(reply: &HttpReply) -> Outcome
     if reply.status == 200 {
         return Outcome::Accepted;
     }
-    match code_in(&reply.body) {
+    match reply.fault.and_then(code_of) {
         Some(code) => Outcome::Refused(code),
         None => Outcome::Untold,
     }

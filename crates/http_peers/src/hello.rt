@@ -1,26 +1,16 @@
-//! Where a node asks another one to be told.
+//! How a node asks another one to be told.
 
-ghost use Rattle.std.specs.Prelude.{◌≡◌, ◌<◌, ℕ, List, bytes_eq, length};
-ghost use Rattle.message_format.specs.Spelling.{max_message};
-ghost use Rattle.http_replies.specs.Replies.{http_value, IsReply};
-ghost use Rattle.http_peers.specs.Hello.{asker_in, hello_labels, hello_path, hello_reply, peer_in};
+ghost use Rattle.std.specs.Prelude.{◌≡◌};
+ghost use Rattle.http_routes.specs.Replies.{http_value, IsReply};
+ghost use Rattle.http_peers.specs.Hello.{asker_in, greeting, peer_in};
 
 use crate::heard::Cluster;
 use crate::peers::Peers;
 use decimals::byte;
-use http_replies::HttpReply;
-use http_service::{Labels, Methods};
-use message_format::MAX_MESSAGE;
+use http_routes::HttpReply;
 use std::alloc::Global;
 use std::str;
 use std::sync::Wait;
-
-/// Whether nodes ask there.
-pub(crate) fn is_hello(path: &str) -> bool
-    ensures { result ≡ bytes_eq path.now hello_path }
-{
-    path == "/hello"
-}
 
 // A number, if it is that of another node.
 fn peer_in(cluster: Cluster, node: Option<u8>) -> Option<u8>
@@ -42,49 +32,11 @@ fn asker_in(cluster: Cluster, body: &[u8]) -> Option<u8>
     }
 }
 
-/// The reply there to a body that is too long.
-pub(crate) fn reply_to_long_hello(alloc: Global, cluster: Cluster, method: &str) -> HttpReply
-    ensures { (body : List ℕ) → max_message < length body
-        → IsReply (hello_reply cluster method.now body) (http_value result) }
-{
-    if method == "POST" {
-        HttpReply::text(alloc, 413, "too long")
-    } else {
-        HttpReply::text(alloc, 405, "bad method")
-    }
-}
-
-/// What a reply there is labelled as.
-pub(crate) fn hello_labels(status: u16) -> Labels
-    ensures { result ≡ hello_labels status }
-{
-    Labels {
-        methods: if status == 405 {
-            Some(Methods::Post)
-        } else {
-            None
-        },
-        ..Labels::plain()
-    }
-}
-
 impl Peers {
-    // The reply where a node asks.
-    pub(crate) fn greet<R: Wait>(
-        &self,
-        rt: &R,
-        alloc: Global,
-        method: &str,
-        body: &[u8],
-    ) -> HttpReply
-        ensures { IsReply (hello_reply self.now.cluster method.now body.now) (http_value result) }
+    /// The reply to a node that asks to be told, by its number as the body. Who asks is noted.
+    pub fn greet<R: Wait>(&self, rt: &R, alloc: Global, body: &[u8]) -> HttpReply
+        ensures { IsReply (greeting self.now.cluster body.now) (http_value result) }
     {
-        if method != "POST" {
-            return HttpReply::text(alloc, 405, "bad method");
-        }
-        if body.len() > MAX_MESSAGE {
-            return HttpReply::text(alloc, 413, "too long");
-        }
         let Some(node) = asker_in(self.cluster, body) else {
             return HttpReply::text(
                 alloc,

@@ -1,6 +1,7 @@
 //! What the definitions promise. Nothing here runs.
 
-ghost use Rattle.std.specs.Prelude.{◌≡◌, ℕ, List, Option, Some, None};
+ghost use Rattle.std.specs.Prelude.{◌≡◌, ◌+◌, ◌++◌, ℕ, List, Option, Some, None, MatchOption};
+ghost use Rattle.std.specs.Prelude.{codes, length, take};
 ghost use Rattle.message_format.specs.Messages.{MessageValue};
 ghost use Rattle.message_format.specs.Spelling.{message_bytes};
 ghost use Rattle.node_calls.specs.declared.fault.NodeFault.{NodeFault};
@@ -8,10 +9,9 @@ ghost use Rattle.node_calls.specs.FaultText.{node_fault_text};
 ghost use Rattle.http_peers.specs.declared.code.Outcome.{Outcome};
 ghost use Rattle.http_peers.specs.declared.heard.Cluster.{Cluster};
 ghost use Rattle.http_peers.specs.declared.heard.Row.{Row};
-ghost use Rattle.http_peers.specs.Codes.{code_in};
-ghost use Rattle.http_peers.specs.Faults.{code_of};
+ghost use Rattle.http_peers.specs.Codes.{code_name, code_of};
 ghost use Rattle.http_peers.specs.Heard.{first_unheard, noted};
-ghost use Rattle.http_peers.specs.Kinds.{sender_of};
+ghost use Rattle.http_peers.specs.Senders.{sender_of};
 
 /// The sender that is read of a message is the one that it names.
 pub fn sender_is_read()
@@ -25,7 +25,9 @@ pub fn hearing_lasts()
         → first_unheard cluster (noted cluster rows sender outcome now) ≡ None }
 {}
 
-/// The code that is read of a refusal is its own, and none of one that refuses no message.
-pub fn code_is_read()
-    ensures { (fault : NodeFault) → code_in (node_fault_text fault) ≡ code_of fault }
+/// The code under which a rejected message is counted is the one with which the fault's text begins.
+pub fn code_is_its_own()
+    ensures { (fault : NodeFault) → MatchOption (code_of fault) (Unit {0}) (λ code.
+        take (length (code_name code) + 1) (node_fault_text fault)
+        ≡ code_name code ++ codes " ") }
 {}

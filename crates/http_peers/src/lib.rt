@@ -1,28 +1,32 @@
 //! Which other nodes of its cluster a served node has heard, and which of their messages it refused.
 //!
-//! A wrapper of any handler of `http_service` notes what each message came to, by the reply to it, and puts
-//! what it noted into the status. Where a node hears first, a call is made only once a message of each
-//! other node was accepted; messages and reads are let through before that.
+//! Whoever serves a node notes what each message came to, by the reply to it, and puts what was noted into
+//! the status. Where a node hears first, a call is made only once a message of each other node was accepted;
+//! messages and reads wait for nobody.
 //!
 //! Nodes tell only news. One that was started again asks each other one to tell it anyway, at `/hello`: who
 //! did is noted, for whoever tells them.
 //!
 //! ```rust
 //! let peers = Peers::new(alloc, 0, 3, Hearing::First)?;
-//! let handler = PeersHandler::new(alloc, handler, &peers)?;
+//! let reply = match peers.awaited(rt) {
+//!     Some(node) => waiting(alloc, node),
+//!     None => called(&mut node, request),
+//! };
 //! ```
 #![tactic(auto)]
 
 mod askers;
 mod code;
-mod handler;
 mod heard;
 mod hello;
-mod kind;
 pub mod laws;
 mod peers;
+mod sender;
 mod shown;
+mod waits;
 
-pub use handler::PeersHandler;
 pub use heard::{Cluster, Hearing};
-pub use peers::Peers;
+pub use peers::{NotedReply, Peers};
+pub use sender::sender_of;
+pub use waits::waiting;

@@ -2,14 +2,14 @@
 
 ghost use Rattle.std.specs.Prelude.{◌≡◌, IfOk};
 ghost use Rattle.std.specs.Arc.{arc_value};
-ghost use Rattle.http_replies.specs.Replies.{http_value};
+ghost use Rattle.http_routes.specs.Replies.{http_value};
 ghost use Rattle.http_peers.specs.Answers.{IsAwaited, IsShown, IsWaitedFor};
 
 use crate::askers::Askers;
-use crate::code::Outcome;
+use crate::code::outcome_of;
 use crate::heard::{Cluster, Heard, Hearing};
 use crate::shown::with_peers;
-use http_replies::HttpReply;
+use http_routes::HttpReply;
 use std::alloc::{AllocError, Global};
 use std::sync::{Arc, Mutex, Wait};
 use std::time::Clock;
@@ -21,6 +21,22 @@ pub struct Peers {
     pub hearing: Hearing,
     heard: Mutex<Heard>,
     pub(crate) askers: Askers,
+}
+
+/// The reply to a message, once it is noted what the message came to. Only `Peers::note` makes one.
+#[derive(Drop)]
+pub struct NotedReply {
+    sender: Option<u8>,
+    reply: HttpReply,
+}
+
+impl NotedReply {
+    /// The reply, for the sender.
+    pub fn into_reply(self) -> HttpReply
+        ensures { result ≡ self.reply }
+    {
+        self.reply
+    }
 }
 
 impl Peers {
@@ -68,19 +84,19 @@ impl Peers {
         self.askers.take(rt, node)
     }
 
-    // Notes what a message with this sender came to just now.
-    pub(crate) fn hear<R: Wait + Clock>(&self, rt: &R, sender: Option<u8>, outcome: Outcome) {
+    /// Notes what a message with this sender came to just now, by the reply to it.
+    pub fn note<R: Wait + Clock>(&self, rt: &R, sender: Option<u8>, reply: HttpReply) -> NotedReply
+        ensures sender { result.sender ≡ sender }
+        ensures reply { result.reply ≡ reply }
+    {
         let now = now_of(rt);
+        let outcome = outcome_of(&reply);
         self.heard.lock(rt).note(self.cluster, sender, outcome, now);
+        NotedReply { sender, reply }
     }
 
-    // A status with what was heard.
-    pub(crate) fn shown<R: Wait + Clock>(
-        &self,
-        rt: &R,
-        alloc: Global,
-        reply: HttpReply,
-    ) -> HttpReply
+    /// A status with what was heard.
+    pub fn shown<R: Wait>(&self, rt: &R, alloc: Global, reply: HttpReply) -> HttpReply
         ensures { IsShown self.now.cluster (http_value reply) (http_value result) }
     {
         let heard = self.heard.lock(rt);

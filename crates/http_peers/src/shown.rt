@@ -1,7 +1,7 @@
 //! What was heard of the other nodes, as JSON.
 
 ghost use Rattle.std.specs.Prelude.{◌≡◌, ◌++◌, codes, OnOk};
-ghost use Rattle.http_replies.specs.Replies.{http_value};
+ghost use Rattle.http_routes.specs.Replies.{http_value};
 ghost use Rattle.http_peers.specs.Answers.{IsWithPeers};
 ghost use Rattle.http_peers.specs.Heard.{is_peer, row_at};
 ghost use Rattle.http_peers.specs.Shown.{count_text, heard_member, heard_text, is_counted};
@@ -10,7 +10,7 @@ ghost use Rattle.http_peers.specs.Shown.{row_text, rows_text};
 
 use crate::code::{ALL_CODES, Code};
 use crate::heard::{Cluster, Heard, Row};
-use http_replies::HttpReply;
+use http_routes::HttpReply;
 use itoa::Buffer;
 use std::alloc::{AllocError, Global};
 
@@ -140,7 +140,7 @@ pub(crate) fn with_peers(
     let mut body = reply.body;
     let _ = body.pop();
     match push_peers(&mut body, cluster, heard) {
-        Ok(()) => HttpReply { status: 200, body },
+        Ok(()) => HttpReply::plain(200, body),
         Err(_) => HttpReply::no_memory(alloc),
     }
 }

@@ -12,6 +12,7 @@ use Rattle.hyper.specs.Request.{head_of, body_of}
 use Rattle.hyper.specs.Uri.{Spells}
 use Rattle.hyper.specs.declared.Request.{Request}
 use Rattle.http_posts.specs.declared.key.Key.{Key}
+use Rattle.http_routes.specs.declared.table.TheConstants.{GOSSIP_PATH, HELLO_PATH}
 
 -- how a request names its server: by the address, without a scope, which means something to this machine alone
 abbrev pub host_text : SocketAddr → List ℕ
@@ -37,10 +38,10 @@ pub record PostsTo (path : List ℕ) (address : SocketAddr) (key : Option Key) (
   pub fields : (head_of request).headers ≡ fields_of address key
   pub body : (body_of request).buf ≡ (if length bytes == 0 then None else Some bytes)
 
--- a message is posted to `/gossip`
+-- a message is posted to the path of messages
 abbrev pub Posts : SocketAddr → Option Key → List ℕ → Request (Full (List ℕ)) → Type 0
-Posts address key message request = PostsTo (codes "/gossip") address key message request
+Posts address key message request = PostsTo GOSSIP_PATH.now address key message request
 
--- the number of a node that wants to be told is posted to `/hello`
+-- the number of a node that wants to be told is posted to the path of hellos
 abbrev pub PostsHello : SocketAddr → Option Key → ℕ → Request (Full (List ℕ)) → Type 0
-PostsHello address key node request = PostsTo (codes "/hello") address key (decimal node) request
+PostsHello address key node request = PostsTo HELLO_PATH.now address key (decimal node) request

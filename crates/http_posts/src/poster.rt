@@ -11,6 +11,7 @@ use crate::key::Key;
 use crate::peer::Peer;
 use crate::request::request;
 use crate::waiting::output_of;
+use http_routes::{GOSSIP_PATH, HELLO_PATH};
 use itoa::Buffer;
 use std::alloc::{AllocGlobal, Global};
 use std::net::Net;
@@ -75,7 +76,7 @@ impl<R: Wait + Clock + Net + RandomSource + AllocGlobal + Drop> Poster<R> {
         ensures answered { IfOk result IsAnswered }
         ensures stays { self.new.rt ≡ self.old.rt }
     {
-        self.post_to(alloc, connection, "/gossip", key, message)
+        self.post_to(alloc, connection, GOSSIP_PATH, key, message)
     }
 
     /// Posts the number of a node that wants to be told to the server of a peer, as `post` does a message.
@@ -94,7 +95,7 @@ impl<R: Wait + Clock + Net + RandomSource + AllocGlobal + Drop> Poster<R> {
     {
         let mut buffer = Buffer::new();
         let number = buffer.format(node).as_bytes();
-        self.post_to(alloc, connection, "/hello", key, number)
+        self.post_to(alloc, connection, HELLO_PATH, key, number)
     }
 
     // Posts bytes to a path of the server of a peer.

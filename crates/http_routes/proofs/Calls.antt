@@ -1,5 +1,5 @@
 -- What a call comes to, by its outcome.
-use Rattle.std.proofs.Common.{◌≡◌, ◌≢◌, ℕ, ◌+◌, ◌*◌, List, [], ◌∷◌, Bool, true, false, Result, Ok, Err, inl, inr, IfOk, IfErr, OnErr, refl, subst, sym, ◌∙◌, ap, arith}
+use Rattle.std.proofs.Common.{◌≡◌, ℕ, [], Bool, true, false, Some, None, Result, Ok, Err, inl, inr, IfOk, IfErr, OnErr, refl, subst, sym, ◌∙◌, ap, arith}
 use Rattle.std.specs.Prelude.{IsErrOf}
 use Rattle.node_calls.specs.declared.fault.NodeFault.{NodeFault}
 use Rattle.node_calls.specs.declared.fault.NodeFault.TheVariants as faults
@@ -7,7 +7,7 @@ use Rattle.node_calls.specs.declared.reply.Reply.{Reply}
 use Rattle.node_calls.specs.Told.{AskTold, reply_told}
 use Rattle.node_calls.specs.Asks.{asked_first, asked_from, reply_value}
 use Rattle.node_core.specs.Traces.{Kept, Accepts, IsRefusalOf}
-use Rattle.http_replies.specs.Replies.{ReplyValue, IsReply}
+use Rattle.http_routes.specs.Replies.{ReplyValue, IsReply}
 use Rattle.http_routes.specs.Replies.{acceptance_value, refusal_value}
 use Rattle.http_routes.specs.Requests.{WantedValue, IsWanted, call}
 use Rattle.http_routes.specs.Answers.{Comes}
@@ -26,42 +26,11 @@ comes_by k new ask given (Ok r) made refused kept told why =
 comes_by k new ask given (Err f) made refused kept told why =
     inr (record { fault = f; refused = refused; kept = kept; told = why })
 
-second_and_third : List ℕ → ℕ
-second_and_third (a ∷ b ∷ c ∷ bytes) = b * 1000 + c
-second_and_third _ = 0
-
-mark_of : ReplyValue → ℕ
-mark_of r = r.status * 100000 + second_and_third r.body
-
--- a reply with another mark than both that say that memory was refused
-apart : (r : ReplyValue) (mark : ℕ) → mark_of r ≡ mark → mark ≢ 50300000 → mark ≢ 50350050 → IsOutOfMemory r → ⊥
-unfolding mark_of second_and_third
-apart r mark is a b (inl e) = a (sym is ∙ ap mark_of e)
-apart r mark is a b (inr e) = b (sym is ∙ ap mark_of e)
-
--- no refusal but the one for want of memory is told as such
+-- no rejection but the one for want of memory carries that fault
 is_told_so : (f : NodeFault) → IsOutOfMemory (refusal_value f) → f ≡ faults.OutOfMemory
-unfolding mark_of second_and_third
-is_told_so faults.TraceFull told = absurd (apart _ 50349032 refl (omega arith) (omega arith) told)
-is_told_so faults.BadName told = absurd (apart _ 40050032 refl (omega arith) (omega arith) told)
-is_told_so (faults.BadActions fault) told = absurd (apart _ 40051032 refl (omega arith) (omega arith) told)
-is_told_so faults.TooManyPoints told = absurd (apart _ 40952032 refl (omega arith) (omega arith) told)
-is_told_so faults.ClockFull told = absurd (apart _ 50353032 refl (omega arith) (omega arith) told)
-is_told_so faults.NotSet told = absurd (apart _ 40954032 refl (omega arith) (omega arith) told)
-is_told_so faults.NoSuchTerm told = absurd (apart _ 40955032 refl (omega arith) (omega arith) told)
-is_told_so faults.NotCounted told = absurd (apart _ 40956032 refl (omega arith) (omega arith) told)
-is_told_so faults.BadNode told = absurd (apart _ 40057032 refl (omega arith) (omega arith) told)
-is_told_so faults.ZeroAmount told = absurd (apart _ 40049048 refl (omega arith) (omega arith) told)
-is_told_so (faults.TooFewRights have) told = absurd (apart _ 40949049 refl (omega arith) (omega arith) told)
-is_told_so faults.CellFull told = absurd (apart _ 50349050 refl (omega arith) (omega arith) told)
-is_told_so (faults.BadWords need) told = absurd (apart _ 50349052 refl (omega arith) (omega arith) told)
-is_told_so (faults.BadMessage fault) told = absurd (apart _ 40049054 refl (omega arith) (omega arith) told)
-is_told_so faults.NotForMe told = absurd (apart _ 40049055 refl (omega arith) (omega arith) told)
-is_told_so faults.OwnAhead told = absurd (apart _ 40049056 refl (omega arith) (omega arith) told)
-is_told_so faults.AckAhead told = absurd (apart _ 40049057 refl (omega arith) (omega arith) told)
-is_told_so faults.Overspent told = absurd (apart _ 40050048 refl (omega arith) (omega arith) told)
-is_told_so faults.BadConfig told = absurd (apart _ 50350049 refl (omega arith) (omega arith) told)
-is_told_so faults.OutOfMemory told = refl
+is_told_so f (inl e) = absurd (let no : Some f ≡ None = ap (λ (r : ReplyValue). r.fault) e in cc)
+is_told_so f (inr e) =
+    let same : Some f ≡ Some faults.OutOfMemory = ap (λ (r : ReplyValue). r.fault) e in cc
 
 -- a reply that says that memory was refused
 pub needed_by : (k : Kept) (ask : AskTold) (given : ReplyValue) (outcome : Result Reply NodeFault)

@@ -7,7 +7,7 @@ use Rattle.node_calls.specs.Told.{AskTold}
 use Rattle.node_calls.specs.Asks.{asked_first}
 use Rattle.node_core.specs.Memory.{DeliveryNeedsMemory, LoadNeedsMemory, NameNeedsMemory, SetNeedsMemory}
 use Rattle.node_core.specs.Traces.{Kept, refusal}
-use Rattle.http_replies.specs.Replies.{ReplyValue, no_memory}
+use Rattle.http_routes.specs.Replies.{ReplyValue, no_memory}
 use Rattle.http_routes.specs.Replies.{refusal_value}
 use Rattle.http_routes.specs.Requests as wants
 use Rattle.http_routes.specs.Requests.{WantedValue}
@@ -39,10 +39,12 @@ IsRefusedAtLength k ask =
     (fault : NodeFault) × (refusal k (asked_first k.config.nodes ask) [] ≡ Some fault) × (holds_fault fault ≡ true)
 
 -- a request: its call does, or it is refused at length; the list, the report and the status are written to memory of
--- their own. What wants nothing of the node needs none
+-- their own, and a spread takes some. What wants nothing of the node needs none
 abbrev pub NeedsMemory : Kept → WantedValue → Type 0
 NeedsMemory k (wants.call ask) = AskNeedsMemory k ask ⊎ IsRefusedAtLength k ask
 NeedsMemory k wants.list = Unit {0}
 NeedsMemory k wants.report = Unit {0}
 NeedsMemory k wants.status = Unit {0}
+NeedsMemory k (wants.sets_spread name text) = Unit {0}
+NeedsMemory k (wants.spreads name) = Unit {0}
 NeedsMemory k (wants.answered reply) = ⊥

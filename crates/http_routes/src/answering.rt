@@ -6,15 +6,19 @@ ghost use Rattle.node_calls.specs.Told.{ask_ref_told, reply_told};
 ghost use Rattle.node_core.specs.Traces.{Accepts, IsRefusalOf};
 ghost use Rattle.http_routes.specs.Answers.{Answers, Comes};
 ghost use Rattle.http_routes.specs.Memory.{AskNeedsMemory, IsOutOfMemory, NeedsMemory};
-ghost use Rattle.http_replies.specs.Replies.{http_value};
-ghost use Rattle.http_routes.specs.Requests.{call, wanted};
+ghost use Rattle.http_routes.specs.Replies.{http_value};
+ghost use Rattle.http_routes.specs.Asked.{asked_value};
+ghost use Rattle.http_routes.specs.Requests.{call, wanted, wanted_asked};
 ghost use Rattle.http_routes.specs.Rooms.{room_reply_value};
 
+use crate::http_reply::HttpReply;
+use crate::paths::Routes;
+use crate::request::Asked;
 use crate::room::{KeptRoom, RoomReply};
+use crate::spreading::{set_spread, spread};
 use crate::status::node_status;
-use crate::wanted_ref::{WantedRef, route_ref};
-use http_paths::Routes;
-use http_replies::HttpReply;
+use crate::table::RouteSet;
+use crate::wanted::WantedRef;
 use node_core::{AskRef, NodeCore, NodeFault, Reply};
 use report_text::report_json;
 use std::alloc::Global;
@@ -61,24 +65,22 @@ fn call_in(core: &mut NodeCore, alloc: Global, room: &mut KeptRoom, ask: AskRef<
     room.reply(alloc, &outcome)
 }
 
-/// Answers a request at a node, in room that is kept: what it wants is done, or refused without a
+/// Answers what is asked of a node, in room that is kept: what it wants is done, or refused without a
 /// change, and the reply says which. That memory was refused is the reply only where memory was
 /// needed: a request that wants nothing of the node is always answered as such.
 pub fn answer_in(
     core: &mut NodeCore,
     alloc: Global,
-    routes: &Routes,
     room: &mut KeptRoom,
-    method: &str,
-    path: &str,
+    asked: &Asked<'_>,
     body: &[u8],
 ) -> RoomReply
-    ensures comes { Comes core.old (wanted method.now path.now body.now) core.new
+    ensures comes { Comes core.old (wanted_asked (asked_value asked.now) body.now) core.new
         (room_reply_value room.new result) }
     ensures memory { IsOutOfMemory (room_reply_value room.new result)
-        → NeedsMemory core.old (wanted method.now path.now body.now) }
+        → NeedsMemory core.old (wanted_asked (asked_value asked.now) body.now) }
 {
-    match route_ref(routes, method, path, body) {
+    match WantedRef::asked(asked, body) {
         WantedRef::Do(ask) => call_in(core, alloc, room, ask),
         WantedRef::List => RoomReply::Apart(HttpReply::written(alloc, 200, core.list(alloc))),
         WantedRef::Report => {
@@ -89,6 +91,10 @@ pub fn answer_in(
         WantedRef::Status => {
             RoomReply::Apart(HttpReply::written(alloc, 200, node_status(alloc, core)))
         }
+        WantedRef::SetSpread { name, text } => {
+            RoomReply::Apart(set_spread(core, alloc, name, text))
+        }
+        WantedRef::Spread { name } => RoomReply::Apart(spread(core, alloc, name)),
         WantedRef::Refused(fault) => room.refuse_request(fault),
     }
 }
@@ -109,11 +115,7 @@ pub fn answer(
     let Ok(mut room) = KeptRoom::new(alloc) else {
         return HttpReply::no_memory(alloc);
     };
-    match answer_in(core, alloc, routes, &mut room, method, path, body) {
-        RoomReply::Kept(status) => HttpReply {
-            status,
-            body: room.into_body(),
-        },
-        RoomReply::Apart(reply) => reply,
-    }
+    let asked = routes.asked(RouteSet::Node, method, path);
+    let reply = answer_in(core, alloc, &mut room, &asked, body);
+    room.filled_by(reply)
 }

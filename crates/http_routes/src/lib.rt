@@ -6,11 +6,16 @@
 //! | `/fail/<name>` | PUT | set; the body is the action text | the stamp |
 //! | `/fail/<name>` | DELETE | remove | the stamp |
 //! | `/load` | POST | load; the body is the setting text | how many entries were set |
+//! | `/spread/<name>` | PUT | set, and spread; the body is the action text | the stamp |
+//! | `/spread/<name>` | POST | spread | how many rights the node keeps |
 //! | `/shift/<name>/<term>/<to>/<amount>` | POST | shift | how many rights were moved in all |
 //! | `/grant/<name>/<term>/<amount>` | POST | grant | how many rights were granted in all |
 //! | `/gossip` | POST | deliver; the body is the message | `changed` or `same` |
 //! | `/report` | GET | the report as JSON | the report |
 //! | `/status` | GET | the status as JSON | the status |
+//!
+//! Spreads are several calls: they are asked of the library and of a served node, and not of a node
+//! alone (`RouteSet`).
 //!
 //! The paths have the shape of the `/fail` routes of TiKV's status server. Of several refusals the
 //! first is the answer: 404 `not found`, 405 `bad method`, 413 `too long` of a body of more than
@@ -25,16 +30,26 @@
 #![tactic(auto)]
 
 mod answering;
+mod http_reply;
+pub mod laws;
+mod paths;
 mod reply;
+mod request;
 mod room;
+mod spreading;
 mod status;
+mod table;
+mod targets;
 mod wanted;
-mod wanted_ref;
 
 pub use answering::{answer, answer_in};
-pub use http_replies::HttpReply;
+pub use http_reply::HttpReply;
+pub use paths::Routes;
 pub use reply::{ReplyRoom, reply_of};
+pub use request::{Asked, MAX_BODY, NodeRequest, Request, RequestFault};
 pub use room::{KeptRoom, RoomReply};
+pub use spreading::{set_spread, spread};
 pub use status::node_status;
-pub use wanted::{MAX_BODY, Wanted, route, route_owned, too_long};
-pub use wanted_ref::{RequestFault, WantedRef, route_ref};
+pub use table::{Content, GOSSIP_PATH, HELLO_PATH, Kind, Methods, RouteSet, Row, Tagging};
+pub use targets::{RouteId, Target};
+pub use wanted::{Wanted, WantedRef, route};

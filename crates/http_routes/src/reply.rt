@@ -4,11 +4,11 @@ ghost use Rattle.std.specs.Prelude.{◌≡◌, ◌≤◌, ◌+◌, ◌++◌, ℕ
 ghost use Rattle.std.specs.Prelude.{IfOk, IfErr, string_bytes, string_len, string_capacity};
 ghost use Rattle.stamp_register.specs.Keys.{stamp_text};
 ghost use Rattle.node_calls.specs.Asks.{reply_value};
-ghost use Rattle.http_replies.specs.Replies.{http_value, IsReply};
+ghost use Rattle.http_routes.specs.Replies.{http_value, IsReply};
 ghost use Rattle.http_routes.specs.Replies.{acceptance_value, answered_text, outcome_value};
 ghost use Rattle.http_routes.specs.Replies.{refusal_value, status_of};
 
-use http_replies::HttpReply;
+use crate::http_reply::HttpReply;
 use itoa::Buffer;
 use node_core::{Ask, NodeFault, Reply};
 use stamp_register::Stamp;
@@ -45,10 +45,7 @@ impl ReplyRoom {
             Ok(reply) => {
                 let mut text = self.text;
                 answered(&mut text, reply);
-                HttpReply {
-                    status: 200,
-                    body: text.into_bytes(),
-                }
+                HttpReply::plain(200, text.into_bytes())
             }
             Err(fault) => refused(self.text, *fault),
         }
@@ -112,16 +109,16 @@ fn refused(room: String, fault: NodeFault) -> HttpReply
     ensures { IsReply (refusal_value fault) (http_value result) }
 {
     let mut text = room;
-    let status = match write!(text, "{fault}") {
-        Ok(()) => status_of(fault),
+    match write!(text, "{fault}") {
+        Ok(()) => HttpReply {
+            status: status_of(fault),
+            body: text.into_bytes(),
+            fault: Some(fault),
+        },
         Err(_) => {
             text.clear();
-            503
+            HttpReply::plain(503, text.into_bytes())
         }
-    };
-    HttpReply {
-        status,
-        body: text.into_bytes(),
     }
 }
 
@@ -154,8 +151,8 @@ pub(crate) fn status_of(fault: NodeFault) -> u16
 }
 
 /// The reply to a request whose ask came to this: 200 and what is answered, without a body for a
-/// pass or an emit, which no request asks; or the refusal's status and its text. What is answered
-/// says of what kind its ask was, so nothing is read from the ask.
+/// pass or an emit, which no request asks; or the fault with its status and its text. What is
+/// answered says of what kind its ask was, so nothing is read from the ask.
 pub fn reply_of(alloc: Global, _ask: &Ask, outcome: &Result<Reply, NodeFault>) -> HttpReply
     ensures { (nodes : ℕ) → IsReply (outcome_value nodes outcome.now) (http_value result) }
 {

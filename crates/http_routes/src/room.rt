@@ -5,14 +5,13 @@ ghost use Rattle.std.specs.Prelude.{IsTrue, MatchOption, option_map, unwrap_or, 
 ghost use Rattle.node_calls.specs.Asks.{reply_value};
 ghost use Rattle.node_calls.specs.FaultText.{node_fault_text};
 ghost use Rattle.http_routes.specs.Memory.{holds_fault};
-ghost use Rattle.http_replies.specs.Replies.{http_value, IsReply};
+ghost use Rattle.http_routes.specs.Replies.{http_value, request_fault_reply, IsReply};
 ghost use Rattle.http_routes.specs.Replies.{acceptance_value, refusal_value};
 ghost use Rattle.http_routes.specs.Rooms.{room_reply_value};
-ghost use Rattle.http_routes.specs.WantedRefs.{request_fault_reply};
 
+use crate::http_reply::HttpReply;
 use crate::reply::{ROOM, answered, append, append_number, status_of};
-use crate::wanted_ref::RequestFault;
-use http_replies::HttpReply;
+use crate::request::RequestFault;
 use node_core::{NodeFault, Reply};
 use std::alloc::{AllocError, Global};
 use std::marker::Model;
@@ -39,7 +38,11 @@ impl Model for KeptRoom {
 #[derive(Drop)]
 pub enum RoomReply {
     /// Its body stands in the room.
-    Kept(u16),
+    Kept {
+        status: u16,
+        /// The fault whose text the body is, if the node rejected the call.
+        fault: Option<NodeFault>,
+    },
     /// Its body has memory of its own.
     Apart(HttpReply),
 }
@@ -72,10 +75,12 @@ impl KeptRoom {
     pub(crate) fn refuse_request(&mut self, fault: RequestFault) -> RoomReply
         ensures { room_reply_value self.new result ≡ request_fault_reply fault }
     {
-        let (status, text) = fault.reply();
         self.text.clear();
-        append(&mut self.text, text);
-        RoomReply::Kept(status)
+        append(&mut self.text, fault.text());
+        RoomReply::Kept {
+            status: fault.status(),
+            fault: None,
+        }
     }
 
     /// The reply to a call that came to this.
@@ -91,7 +96,10 @@ impl KeptRoom {
         match outcome {
             Ok(reply) => {
                 answered(&mut self.text, reply);
-                RoomReply::Kept(200)
+                RoomReply::Kept {
+                    status: 200,
+                    fault: None,
+                }
             }
             Err(fault) => self.refuse(alloc, *fault),
         }
@@ -110,18 +118,28 @@ impl KeptRoom {
                 if let Some(number) = number {
                     append_number(&mut self.text, number);
                 }
-                RoomReply::Kept(status_of(fault))
+                RoomReply::Kept {
+                    status: status_of(fault),
+                    fault: Some(fault),
+                }
             }
-            None => RoomReply::Apart(at_length(alloc, fault)),
+            None => RoomReply::Apart(HttpReply::rejection(alloc, status_of(fault), fault)),
         }
     }
-}
 
-// The reply to a call that is refused so, in memory of its own.
-fn at_length(alloc: Global, fault: NodeFault) -> HttpReply
-    ensures { IsReply (refusal_value fault) (http_value result) }
-{
-    HttpReply::written(alloc, status_of(fault), format!(in alloc; "{fault}"))
+    /// The reply, if its body stands in this room or apart.
+    pub(crate) fn filled_by(self, reply: RoomReply) -> HttpReply
+        ensures { http_value result ≡ room_reply_value self reply }
+    {
+        match reply {
+            RoomReply::Kept { status, fault } => HttpReply {
+                status,
+                body: self.into_body(),
+                fault,
+            },
+            RoomReply::Apart(reply) => reply,
+        }
+    }
 }
 
 // The text of a fault that holds no other, and the number that it ends with, if it holds one.

@@ -1,6 +1,5 @@
 mod Calls
 mod Crossing
 mod Forgotten
-mod Methods
 mod Recorded
 mod Spreads

@@ -1,5 +1,5 @@
 -- What a call at a node whose part is kept is answered.
-use Rattle.std.proofs.Common.{◌≡◌, ℕ, ◌+◌, Bool, List, Option, Result, Ok, Err, IfOk, IfErr, inl, inr, refl, sym, ap, ◌∙◌, subst}
+use Rattle.std.proofs.Common.{◌≡◌, ℕ, ◌+◌, Bool, List, Option, Some, None, Result, Ok, Err, IfOk, IfErr, inl, inr, refl, sym, ap, ◌∙◌, subst}
 use Rattle.std.specs.Prelude.{◌⊎◌, OnOk}
 use Rattle.node_calls.specs.declared.ask.Ask.{Ask}
 use Rattle.node_calls.specs.declared.fault.NodeFault.{NodeFault}
@@ -14,35 +14,12 @@ use Rattle.part_keeper.specs.Kept.{IsUnanswered}
 use Rattle.part_keeper.specs.Pieces.{Continues, HasLine}
 use Rattle.part_keeper.specs.declared.fault.CallFault.{CallFault}
 use Rattle.part_keeper.specs.declared.fault.CallFault.TheVariants as faults
-use Rattle.http_replies.specs.declared.reply.HttpReply.{HttpReply}
-use Rattle.http_replies.specs.Replies.{ReplyValue, IsReply, http_value}
+use Rattle.http_routes.specs.declared.http_reply.HttpReply.{HttpReply}
+use Rattle.http_routes.specs.Replies.{ReplyValue, IsReply, http_value, no_memory}
 use Rattle.http_routes.specs.Replies.{acceptance_value, refusal_value}
-use Rattle.http_routes.specs.Requests.{WantedValue, call, wanted}
-use Rattle.http_routes.specs.Requests as wants
-use Rattle.spread_routes.specs.Wanted.{SpreadValue}
-use Rattle.http_serve.specs.Recorded.{AnswersRecording, IsNotMade, IsNotRecorded, IsServedRecording, IsServedWriting, IsSpreadRecording, IsSpreadWriting, TellsFault}
-use Rattle.http_serve.specs.Served.{IsServed}
-use Rattle.http_serve.specs.Spreads.{AnswersRequest, IsSpreadFrom, IsSpreadServed}
-use Rattle.http_serve.proofs.Spreads.{answers_as}
-
--- what is answered as by a node that records nothing
-pub as_ever : (config : Config) (seed : List ℕ) (wanted : WantedValue) (given : ReplyValue) →
-    IsServed config seed wanted given → IsServedRecording config seed wanted given
-as_ever config seed (wants.call ask) given is = inl is
-as_ever config seed wants.list given is = is
-as_ever config seed wants.report given is = is
-as_ever config seed wants.status given is = is
-as_ever config seed (wants.answered reply) given is = is
-
--- and any request
-pub as_spread_ever : (config : Config) (seed : List ℕ) (keeps : Bool) (seats : ℕ) (method path body : List ℕ)
-    (given : ReplyValue) → AnswersRequest config seed keeps seats method path body given
-    → AnswersRecording config seed keeps seats method path body given
-as_spread_ever config seed keeps seats method path body given h =
-    let asked = wanted method path body in
-    answers_as (IsSpreadServed config seed keeps seats) (IsSpreadRecording config seed keeps seats)
-    (IsServed config seed asked) (IsServedRecording config seed asked) method path body given
-    (as_ever config seed asked given) (λ name came. inl came) h
+use Rattle.http_routes.specs.Requests.{WantedValue, call}
+use Rattle.http_serve.specs.Recorded.{IsNotMade, IsNotRecorded, IsServedRecording, IsServedWriting, IsSpreadWriting, IsUnrecorded, TellsFault}
+use Rattle.http_serve.specs.Spreads.{IsSpreadFrom, IsSpreadServed, spread_of}
 
 -- a fault that says that nothing is made any more is no other
 pub failed_otherwise : faults.RecordingFailed ≡ faults.NotRecorded → ⊥
@@ -104,30 +81,30 @@ module _ {W : Type 0} (contents : W → Option (List ℕ)) (old new : W) (was no
       unmade_so (ask_told ask) given why (unmade failed_otherwise).0
 
   -- several calls, by what came of them
-  pub spread_by : (S : Type 0) (name : List ℕ) (wanted : SpreadValue)
-      (made : Result HttpReply CallFault) (given : HttpReply)
-      → IfOk made (λ reply. IsSpreadFrom config seed keeps seats had has name wanted (http_value reply))
+  pub spread_by : (S : Type 0) (wanted : WantedValue) (made : Result HttpReply CallFault) (given : HttpReply)
+      → IfOk made (λ reply. IsSpreadFrom config seed keeps seats had has wanted (http_value reply))
       → OnOk made (Continues contents config seed keeps seats has old new was now)
       → IfErr made (λ fault. (fault ≡ faults.NotRecorded) ⊎ (fault ≡ faults.RecordingFailed))
       → IfErr made (λ fault. (fault ≡ faults.NotRecorded → ⊥) → (has ≡ had) × S)
       → IfOk made (λ reply. given ≡ reply)
       → IfErr made (λ fault. TellsFault fault (http_value given))
-      → IsSpreadWriting contents old new was now had has config seed keeps seats name wanted (http_value given)
-  spread_by S name wanted (Ok reply) given came written only unmade told why = inl (
-    subst (λ r. IsSpreadFrom config seed keeps seats had has name wanted (http_value r)) (sym told) came,
+      → IsSpreadWriting contents old new was now had has config seed keeps seats wanted (http_value given)
+  spread_by S wanted (Ok reply) given came written only unmade told why = inl (
+    subst (λ r. IsSpreadFrom config seed keeps seats had has wanted (http_value r)) (sym told) came,
     written,
   )
-  spread_by S name wanted (Err (faults.Refused fault)) given came written (inl is) unmade told why =
+  spread_by S wanted (Err (faults.Refused fault)) given came written (inl is) unmade told why =
       absurd (was_recorded fault is)
-  spread_by S name wanted (Err (faults.Refused fault)) given came written (inr is) unmade told why =
+  spread_by S wanted (Err (faults.Refused fault)) given came written (inr is) unmade told why =
       absurd (is_made fault is)
-  spread_by S name wanted (Err faults.NotRecorded) given came written only unmade told why = inr (inl why)
-  spread_by S name wanted (Err faults.RecordingFailed) given came written only unmade told why =
+  spread_by S wanted (Err faults.NotRecorded) given came written only unmade told why = inr (inl why)
+  spread_by S wanted (Err faults.RecordingFailed) given came written only unmade told why =
       inr (inr (why, (unmade failed_otherwise).0))
 
   -- whatever was written
   pub as_recording : (ask : AskTold) (given : ReplyValue)
-      → IsServedWriting contents old new was now had has config seed keeps seats ask given → IsServedRecording config seed (call ask) given
+      → IsServedWriting contents old new was now had has config seed keeps seats ask given
+      → IsServedRecording config seed keeps seats (call ask) given
   as_recording ask given (inl (made, written, counted)) = inl (inl (inl made))
   as_recording ask given (inr (inl unrecorded)) = inr (inl unrecorded)
   as_recording ask given (inr (inr (inl refused, same))) = inl (inl (inr refused))
@@ -135,11 +112,18 @@ module _ {W : Type 0} (contents : W → Option (List ℕ)) (old new : W) (was no
   as_recording ask given (inr (inr (inr (inr none), same))) = inl (inr none)
 
 -- whatever was written of a spread
-pub as_spread : (written : Type 0) (config : Config) (seed : List ℕ) (keeps : Bool) (seats : ℕ) (had has : SeatState)
-    (name : List ℕ) (wanted : SpreadValue) (given : ReplyValue)
-    → (IsSpreadFrom config seed keeps seats had has name wanted given × written)
-    ⊎ (IsNotRecorded given ⊎ (IsNotMade given × (has ≡ had)))
-    → IsSpreadRecording config seed keeps seats name wanted given
-as_spread written config seed keeps seats had has name wanted given (inl (came, kept)) = inl (had, has, came)
-as_spread written config seed keeps seats had has name wanted given (inr (inl unrecorded)) = inr (inl unrecorded)
-as_spread written config seed keeps seats had has name wanted given (inr (inr (unmade, same))) = inr (inr unmade)
+module _ (written : Type 0) (config : Config) (seed : List ℕ) (keeps : Bool) (seats : ℕ) (had has : SeatState) where
+  of_spread : (wanted : WantedValue) (given : ReplyValue)
+      → (IsSpreadFrom config seed keeps seats had has wanted given × written)
+      ⊎ (IsNotRecorded given ⊎ (IsNotMade given × (has ≡ had)))
+      → (IsSpreadServed config seed keeps seats wanted given ⊎ (given ≡ no_memory)) ⊎ IsUnrecorded given
+  of_spread wanted given (inl (came, kept)) = inl (inl (had, has, came))
+  of_spread wanted given (inr (inl unrecorded)) = inr (inl unrecorded)
+  of_spread wanted given (inr (inr (unmade, same))) = inr (inr unmade)
+
+  pub as_spread : (name : List ℕ) (text : Option (List ℕ)) (given : ReplyValue)
+      → (IsSpreadFrom config seed keeps seats had has (spread_of name text) given × written)
+      ⊎ (IsNotRecorded given ⊎ (IsNotMade given × (has ≡ had)))
+      → IsServedRecording config seed keeps seats (spread_of name text) given
+  as_spread name (Some text) given h = of_spread (spread_of name (Some text)) given h
+  as_spread name None given h = of_spread (spread_of name None) given h

@@ -1,3 +1,4 @@
+pub mod Clients
 pub mod Forgotten
 pub mod Recorded
 pub mod Served

@@ -6,16 +6,16 @@ use Rattle.node_calls.specs.Asks.{reply_value}
 use Rattle.node_calls.specs.Told.{AskTold, ask_told}
 use Rattle.node_steps.specs.declared.config.Config.{Config}
 use Rattle.node_registry.specs.Seats.{SeatState}
-use Rattle.http_replies.specs.Replies.{ReplyValue, IsReply, no_memory, text_reply}
+use Rattle.http_routes.specs.Asked.{NodeRequestValue}
+use Rattle.http_routes.specs.Replies.{ReplyValue, IsReply, no_memory, text_reply}
 use Rattle.http_routes.specs.Replies.{acceptance_value, refusal_value}
-use Rattle.http_routes.specs.Requests.{WantedValue, wanted}
+use Rattle.http_routes.specs.Requests.{WantedValue, wanted_of}
 use Rattle.http_routes.specs.Requests as wants
 use Rattle.part_keeper.specs.Pieces.{Continues, HasLine}
 use Rattle.part_keeper.specs.declared.fault.CallFault.{CallFault}
 use Rattle.part_keeper.specs.declared.fault.CallFault.TheVariants as faults
-use Rattle.spread_routes.specs.Wanted.{SpreadValue}
 use Rattle.http_serve.specs.Served.{IsMade, IsRefused, IsServed}
-use Rattle.http_serve.specs.Spreads.{AnswersOrSpreads, IsSpreadFrom, IsSpreadServed}
+use Rattle.http_serve.specs.Spreads.{IsSpreadFrom}
 use Rattle.http_serve.specs.declared.handler.recording.TheConstants.{NOT_RECORDED, RECORDING_FAILED}
 
 -- a call that couldn't be recorded is answered so, and one that isn't made since an earlier one couldn't
@@ -34,10 +34,15 @@ TellsFault (faults.Refused fault) given = IsReply (refusal_value fault) given
 TellsFault faults.NotRecorded given = IsNotRecorded given
 TellsFault faults.RecordingFailed given = IsNotMade given
 
--- what is wanted is answered as by a node that records nothing; or a call so
-abbrev pub IsServedRecording : Config → List ℕ → WantedValue → ReplyValue → Type 0
-IsServedRecording config seed (wants.call ask) given = IsServed config seed (wants.call ask) given ⊎ IsUnrecorded given
-IsServedRecording config seed wanted given = IsServed config seed wanted given
+-- what is wanted is answered as by a node that records nothing; or a call or a spread so
+abbrev pub IsServedRecording : Config → List ℕ → Bool → ℕ → WantedValue → ReplyValue → Type 0
+IsServedRecording config seed keeps seats (wants.call ask) given =
+    IsServed config seed keeps seats (wants.call ask) given ⊎ IsUnrecorded given
+IsServedRecording config seed keeps seats (wants.sets_spread name text) given =
+    IsServed config seed keeps seats (wants.sets_spread name text) given ⊎ IsUnrecorded given
+IsServedRecording config seed keeps seats (wants.spreads name) given =
+    IsServed config seed keeps seats (wants.spreads name) given ⊎ IsUnrecorded given
+IsServedRecording config seed keeps seats wanted given = IsServed config seed keeps seats wanted given
 
 -- a writer that had the lines of so many calls was given the line of a call with this ask, at its number, and this is
 -- the reply to that call
@@ -60,22 +65,16 @@ IsServedWriting contents old new was now had has config seed keeps seats ask giv
     ⊎ (IsNotRecorded given
     ⊎ ((IsRefused config seed ask given ⊎ (IsNotMade given ⊎ (given ≡ no_memory))) × (has ≡ had)))
 
--- what is wanted of a spread is answered as by a node that records nothing; or so
-abbrev pub IsSpreadRecording : Config → List ℕ → Bool → ℕ → List ℕ → SpreadValue → ReplyValue → Type 0
-IsSpreadRecording config seed keeps seats name wanted given =
-    IsSpreadServed config seed keeps seats name wanted given ⊎ IsUnrecorded given
-
 -- What is wanted of a spread is answered only where the lines of its calls were written, each of which is counted to the
 -- seat. Else they couldn't be recorded; or none is made any more, and then none was
 abbrev pub IsSpreadWriting : {W : Type 0} → (W → Option (List ℕ)) → W → W → ℕ → ℕ → SeatState → SeatState → Config → List ℕ →
-    Bool → ℕ → List ℕ → SpreadValue → ReplyValue → Type 0
-IsSpreadWriting contents old new was now had has config seed keeps seats name wanted given =
-    (IsSpreadFrom config seed keeps seats had has name wanted given
+    Bool → ℕ → WantedValue → ReplyValue → Type 0
+IsSpreadWriting contents old new was now had has config seed keeps seats wanted given =
+    (IsSpreadFrom config seed keeps seats had has wanted given
     × Continues contents config seed keeps seats has old new was now)
     ⊎ (IsNotRecorded given ⊎ (IsNotMade given × (has ≡ had)))
 
--- a request is answered so, one to spread or any other
-abbrev pub AnswersRecording : Config → List ℕ → Bool → ℕ → List ℕ → List ℕ → List ℕ → ReplyValue → Type 0
-AnswersRecording config seed keeps seats method path body given =
-    AnswersOrSpreads (IsSpreadRecording config seed keeps seats)
-    (IsServedRecording config seed (wanted method path body)) method path body given
+-- a request is answered so, by what it asks for and its body
+abbrev pub AnswersRecording : Config → List ℕ → Bool → ℕ → NodeRequestValue → List ℕ → ReplyValue → Type 0
+AnswersRecording config seed keeps seats request body given =
+    IsServedRecording config seed keeps seats (wanted_of request body) given

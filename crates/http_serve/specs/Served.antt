@@ -1,5 +1,5 @@
--- What a served node answers to a request.
-use Rattle.std.specs.Prelude.{◌≡◌, ◌⊎◌, ℕ, ◌+◌, List}
+-- What a node answers that is served, by what is wanted of it.
+use Rattle.std.specs.Prelude.{◌≡◌, ◌⊎◌, ℕ, ◌+◌, Bool, List}
 use Rattle.node_steps.specs.declared.config.Config.{Config}
 use Rattle.node_calls.specs.declared.fault.NodeFault.{NodeFault}
 use Rattle.node_calls.specs.declared.receipt.Receipt.{Receipt}
@@ -10,13 +10,16 @@ use Rattle.node_steps.specs.Texts.{list_text}
 use Rattle.node_registry.specs.Cells.{Cell, IsLawfulAt}
 use Rattle.node_registry.specs.Receipts.{IsGiven, IsReceiptOf}
 use Rattle.node_registry.specs.Receipts as registry
+use Rattle.node_registry.specs.Seats.{SeatState}
 use Rattle.report_text.specs.Json.{report_json_text}
 use Rattle.report_text.specs.Status.{status_json_text}
+use Rattle.http_routes.specs.Asked.{NodeRequestValue}
+use Rattle.http_routes.specs.Replies.{ReplyValue, IsReply, no_memory, text_reply}
 use Rattle.http_routes.specs.Answers.{head_of}
-use Rattle.http_replies.specs.Replies.{ReplyValue, IsReply, no_memory, text_reply}
 use Rattle.http_routes.specs.Replies.{acceptance_value, refusal_value}
-use Rattle.http_routes.specs.Requests.{WantedValue}
+use Rattle.http_routes.specs.Requests.{WantedValue, wanted_of}
 use Rattle.http_routes.specs.Requests as wants
+use Rattle.http_serve.specs.Spreads.{IsSpreadFrom, IsSpreadServed}
 
 -- some lawful node of this configuration and seed accepts the ask, and the reply is what it answers, always
 pub record IsMade (config : Config) (seed : List ℕ) (ask : AskTold) (given : ReplyValue) : Type 0 where
@@ -32,26 +35,46 @@ pub record IsRefused (config : Config) (seed : List ℕ) (ask : AskTold) (given 
   pub told : IsReply (refusal_value fault) given
 
 -- what is wanted of a node of this configuration comes to this reply
-abbrev pub Comes : Config → List ℕ → WantedValue → ReplyValue → Type 0
-Comes config seed (wants.call ask) given = IsMade config seed ask given ⊎ IsRefused config seed ask given
-Comes config seed wants.list given =
+abbrev pub Comes : Config → List ℕ → Bool → ℕ → WantedValue → ReplyValue → Type 0
+Comes config seed keeps seats (wants.call ask) given = IsMade config seed ask given ⊎ IsRefused config seed ask given
+Comes config seed keeps seats wants.list given =
     (c : Cell) × IsLawfulAt config seed c × IsReply (text_reply 200 (list_text (state_known c.node))) given
-Comes config seed wants.report given =
+Comes config seed keeps seats wants.report given =
     (c : Cell) × IsLawfulAt config seed c
     × IsReply (text_reply 200 (report_json_text (state_known c.node) config.nodes)) given
-Comes config seed wants.status given =
+Comes config seed keeps seats wants.status given =
     (c : Cell) × IsLawfulAt config seed c
     × IsReply (text_reply 200 (status_json_text (head_of c.node) (state_known c.node))) given
-Comes config seed (wants.answered reply) given = IsReply reply given
+Comes config seed keeps seats (wants.sets_spread name text) given =
+    IsSpreadServed config seed keeps seats (wants.sets_spread name text) given
+Comes config seed keeps seats (wants.spreads name) given =
+    IsSpreadServed config seed keeps seats (wants.spreads name) given
+Comes config seed keeps seats (wants.answered reply) given = IsReply reply given
 
 -- the same; or memory was refused before anything was asked
-abbrev pub IsServed : Config → List ℕ → WantedValue → ReplyValue → Type 0
-IsServed config seed wanted given = Comes config seed wanted given ⊎ (given ≡ no_memory)
+abbrev pub IsServed : Config → List ℕ → Bool → ℕ → WantedValue → ReplyValue → Type 0
+IsServed config seed keeps seats wanted given = Comes config seed keeps seats wanted given ⊎ (given ≡ no_memory)
 
--- the same from a seat, with how many calls it had made and has made then: an accepted call is counted, and is
--- answered as one, always; where there is another reply, no call was made
-abbrev pub IsServedFrom : Config → List ℕ → ℕ → ℕ → WantedValue → ReplyValue → Type 0
-IsServedFrom config seed had has (wants.call ask) given =
-    (IsMade config seed ask given × (has ≡ had + 1)) ⊎ ((IsRefused config seed ask given ⊎ (given ≡ no_memory)) ×
-    (has ≡ had))
-IsServedFrom config seed had has wanted given = IsServed config seed wanted given × (has ≡ had)
+-- The same from a seat, as it was and as it is then: an accepted call is counted, and is answered as one, always; where
+-- there is another reply, no call was made. Of a spread each call is counted
+abbrev pub IsServedFrom : Config → List ℕ → Bool → ℕ → SeatState → SeatState → WantedValue → ReplyValue → Type 0
+IsServedFrom config seed keeps seats had has (wants.call ask) given =
+    (IsMade config seed ask given × (has.calls ≡ had.calls + 1))
+    ⊎ ((IsRefused config seed ask given ⊎ (given ≡ no_memory)) × (has.calls ≡ had.calls))
+IsServedFrom config seed keeps seats had has (wants.sets_spread name text) given =
+    IsSpreadFrom config seed keeps seats had has (wants.sets_spread name text) given
+IsServedFrom config seed keeps seats had has (wants.spreads name) given =
+    IsSpreadFrom config seed keeps seats had has (wants.spreads name) given
+IsServedFrom config seed keeps seats had has wanted given =
+    IsServed config seed keeps seats wanted given × (has.calls ≡ had.calls)
+
+-- a request is answered so, by what it asks for and its body
+abbrev pub AnswersRequest : Config → List ℕ → Bool → ℕ → NodeRequestValue → List ℕ → ReplyValue → Type 0
+AnswersRequest config seed keeps seats request body given =
+    IsServed config seed keeps seats (wanted_of request body) given
+
+-- and so from a seat
+abbrev pub AnswersRequestFrom : Config → List ℕ → Bool → ℕ → SeatState → SeatState → NodeRequestValue → List ℕ →
+    ReplyValue → Type 0
+AnswersRequestFrom config seed keeps seats had has request body given =
+    IsServedFrom config seed keeps seats had has (wanted_of request body) given

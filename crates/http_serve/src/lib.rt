@@ -1,4 +1,4 @@
-//! Serves a node over HTTP, by the routes of `http_routes`, the spreads of `spread_routes` and the
+//! Serves a node over HTTP, by the table of requests and the replies of `http_routes` and the
 //! connections of `http_service`.
 //!
 //! A node may be served as it is, with its calls forgotten with each reply, or with its part kept: then
@@ -12,7 +12,8 @@
 #![tactic(auto)]
 
 mod handler;
-pub mod laws;
+mod node_answers;
+mod served_node;
 mod serving;
 
 pub use http_peers::{Hearing, Peers};

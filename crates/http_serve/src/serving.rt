@@ -6,7 +6,8 @@ ghost use Rattle.http_service.specs.declared.fault.ServeFault.TheVariants.{Accep
 ghost use Rattle.http_service.specs.Endings.{IsServedTo};
 
 use crate::handler::{ForgettingHandler, NodeHandler, RecordingHandler};
-use http_peers::{Peers, PeersHandler};
+use crate::served_node::ServedNode;
+use http_peers::Peers;
 use http_service::{Access, Ending, ServeFault, Served, serve_all, serve_until_ended};
 use node_registry::{Label, Registry, Seat};
 use part_keeper::Recorder;
@@ -39,8 +40,8 @@ where
     ensures ok { IfOk result (λ served. served ≡ requests) }
     ensures err { IfErr result (λ f. (f ≡ AcceptFailed) ⊎ (f ≡ OutOfMemory)) }
 {
-    let handler = NodeHandler::new(alloc, registry, seat)?;
-    let handler = PeersHandler::new(alloc, handler, peers)?;
+    let node = NodeHandler::new(registry, seat)?;
+    let handler = ServedNode::new(alloc, node, peers, None)?;
     serve_all(rt, alloc, runtime, handler, access, listener, requests)
 }
 
@@ -65,8 +66,9 @@ where
     ensures ok { IfOk result (IsServedTo requests (arc_value ending.now).reason.id) }
     ensures err { IfErr result (λ f. (f ≡ AcceptFailed) ⊎ (f ≡ OutOfMemory)) }
 {
-    let handler = ForgettingHandler::new(rt, alloc, registry, seat)?;
-    let handler = PeersHandler::new(alloc, handler, peers)?;
+    let node = ForgettingHandler::new(rt, alloc, registry, seat)?;
+    let own = Arc::try_clone(ending)?;
+    let handler = ServedNode::new(alloc, node, peers, Some(own))?;
     serve_until_ended(
         rt, alloc, runtime, handler, access, listener, requests, ending,
     )
@@ -92,8 +94,9 @@ where
     ensures ok { IfOk result (IsServedTo requests (arc_value ending.now).reason.id) }
     ensures err { IfErr result (λ f. (f ≡ AcceptFailed) ⊎ (f ≡ OutOfMemory)) }
 {
-    let handler = RecordingHandler::new(alloc, registry, recorder)?;
-    let handler = PeersHandler::new(alloc, handler, peers)?;
+    let node = RecordingHandler::new(registry, recorder)?;
+    let own = Arc::try_clone(ending)?;
+    let handler = ServedNode::new(alloc, node, peers, Some(own))?;
     serve_until_ended(
         rt, alloc, runtime, handler, access, listener, requests, ending,
     )

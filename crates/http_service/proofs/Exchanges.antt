@@ -8,8 +8,10 @@ use Rattle.http_body.specs.Frame.{bytes_in, joined_data}
 use Rattle.http_body_util.specs.declared.limited.LimitedError.TheVariants.{LengthLimit, Body}
 use Rattle.http.specs.declared.response.Response.{Response}
 use Rattle.http_body_util.specs.declared.full.Full.{Full}
-use Rattle.http_replies.specs.declared.reply.HttpReply.{HttpReply}
-use Rattle.http_replies.specs.Replies.{ReplyValue, IsReply, http_value}
+use Rattle.http_routes.specs.Asked.{RequestValue}
+use Rattle.http_routes.specs.declared.table.Row.{Row}
+use Rattle.http_routes.specs.declared.http_reply.HttpReply.{HttpReply}
+use Rattle.http_routes.specs.Replies.{ReplyValue, IsReply, http_value}
 use Rattle.hyper.specs.declared.error.Error.{Error}
 use Rattle.http_service.specs.declared.exchange.Exchange.{Exchange}
 use Rattle.http_service.specs.declared.exchange.Reading.{Reading}
@@ -98,8 +100,7 @@ module _ (source : Runs Piece) (had : List ℕ) where
   goes_by room (Some (Err (Body error))) has rest after is = absurd (cc)
 
 -- what an exchange gives later is what it gives
-module _ {I H R : Type 0} (answers : H → List ℕ → List ℕ → List ℕ → ReplyValue → Type 0)
-    (labelled : List ℕ → ℕ → Labels) where
+module _ {I H R : Type 0} (answers : H → RequestValue → Row → List ℕ → ReplyValue → Type 0) where
   ends_then : (old new : Exchange I H R) (reading : Reading) (has : List ℕ) → IsFalse old.is_too_long
       → new.is_too_long ≡ old.is_too_long
       → GoesOn (pieces_of old.body) old.read.items (pieces_of new.body) new.read.items → ReadsSo new reading has →
@@ -111,32 +112,32 @@ module _ {I H R : Type 0} (answers : H → List ℕ → List ℕ → List ℕ �
   read_later : (old new : Exchange I H R) (given : Result (Response (Full (List ℕ))) Error) →
       IsFalse old.is_too_long → new.is_too_long ≡ old.is_too_long → asking_of new ≡ asking_of old
       → GoesOn (pieces_of old.body) old.read.items (pieces_of new.body) new.read.items
-      → GivesRead answers labelled new given → GivesRead answers labelled old given
+      → GivesRead answers new given → GivesRead answers old given
   read_later old new given isnt told same on gives =
       record {
         reading = gives.reading;
         body = gives.body;
         ends = ends_then old new gives.reading gives.body isnt told on gives.ends;
-        answered = subst (λ a. IsAnswered answers labelled a gives.reading gives.body given) same gives.answered;
+        answered = subst (λ a. IsAnswered answers a gives.reading gives.body given) same gives.answered;
       }
 
   pub gives_later : (old new : Exchange I H R) (given : Result (Response (Full (List ℕ))) Error) →
       old.refusal ≡ None → new.refusal ≡ old.refusal → IsFalse old.is_too_long
       → new.is_too_long ≡ old.is_too_long → asking_of new ≡ asking_of old
       → GoesOn (pieces_of old.body) old.read.items (pieces_of new.body) new.read.items
-      → Gives answers labelled new given →
-      Gives answers labelled old given
+      → Gives answers new given →
+      Gives answers old given
   gives_later old new given none kept isnt told same on gives =
-      subst (λ o. MatchOption o (GivesRead answers labelled old given) (λ refusal. IsRefused old.fields refusal given)) (sym none)
+      subst (λ o. MatchOption o (GivesRead answers old given) (λ refusal. IsRefused old.fields refusal given)) (sym none)
       (read_later old new given isnt told same on
-      (subst (λ o. MatchOption o (GivesRead answers labelled new given) (λ refusal. IsRefused new.fields refusal given))
+      (subst (λ o. MatchOption o (GivesRead answers new given) (λ refusal. IsRefused new.fields refusal given))
       (kept ∙ none) gives))
 
   -- a head that is refused is answered so
   pub refused_so : (e : Exchange I H R) (refusal : Refusal) (reply : HttpReply) (labels : Labels)
       (given : Result (Response (Full (List ℕ))) Error) → e.refusal ≡ Some refusal
       → IsReply (refusal_reply refusal) (http_value reply) → labels ≡ refusal_labels refusal
-      → Responds e.fields (λ _. labels) (Ok reply) given → Gives answers labelled e given
+      → Responds e.fields (λ _. labels) (Ok reply) given → Gives answers e given
   refused_so e refusal reply labels given is replies plain responds =
-      subst (λ o. MatchOption o (GivesRead answers labelled e given) (λ r. IsRefused e.fields r given)) (sym is)
+      subst (λ o. MatchOption o (GivesRead answers e given) (λ r. IsRefused e.fields r given)) (sym is)
       (reply, replies, subst (λ (l : Labels). Responds e.fields (λ _. l) (Ok reply) given) plain responds)

@@ -4,7 +4,7 @@ use Rattle.http_header.specs.FieldValue.{FieldValue, plain_value}
 use Rattle.http_header.specs.HeaderMap.{Entries, insert}
 use Rattle.operator_page.specs.declared.page.TheConstants.{POLICY}
 use Rattle.http_service.specs.Labels.{content_text, type_fields, with_policy}
-use Rattle.http_service.specs.declared.labels.Content.{Content}
+use Rattle.http_routes.specs.declared.table.Content.{Content}
 
 pub types_put : (content : Content) (none typed safe : Entries FieldValue) (kind nosniff : FieldValue) → none ≡ []
     → kind ≡ plain_value (content_text content) → typed ≡ insert none (codes "content-type") kind

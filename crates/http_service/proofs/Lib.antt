@@ -1,3 +1,4 @@
+mod Crossing
 mod Delays
 mod Endings
 mod Exchanges

@@ -1,5 +1,5 @@
 -- What a request comes to whose body comes in frames.
-use Rattle.std.specs.Prelude.{◌≡◌, ◌⊎◌, ◌==◌, if◌then◌else◌, ◌<◌, ◌+◌, ◌++◌, ℕ, List, [], length, map, Option, Some, None, Result, Ok, Err, MatchBool, MatchOption, codes, option_map, IsSomeAnd, IsTrue, IsFalse, ◌↔◌}
+use Rattle.std.specs.Prelude.{◌≡◌, ◌⊎◌, ◌==◌, if◌then◌else◌, ◌<◌, ◌+◌, ◌++◌, ℕ, List, [], length, map, nat_lt, Option, Some, None, Result, Ok, Err, MatchBool, MatchOption, codes, option_map, IsSomeAnd, IsTrue, IsFalse, ◌↔◌}
 use Rattle.std.specs.Arc.{arc_value}
 use Rattle.message_format.specs.Spelling.{max_message}
 use Rattle.futures.specs.Runs.{Runs}
@@ -17,8 +17,11 @@ use Rattle.http_body_util.specs.declared.limited.Limited.{Limited}
 use Rattle.http_body_util.specs.declared.limited.LimitedError.{LimitedError}
 use Rattle.http_body_util.specs.declared.limited.LimitedError.TheVariants.{LengthLimit, Body}
 use Rattle.http_body_util.specs.Limited.{Limits}
-use Rattle.http_replies.specs.declared.reply.HttpReply.{HttpReply}
-use Rattle.http_replies.specs.Replies.{ReplyValue, IsReply, http_value, no_memory}
+use Rattle.http_routes.specs.Asked.{AskedValue, RequestValue, nowhere, other_method, known, asked_of, asked_value}
+use Rattle.http_routes.specs.declared.request.RequestFault.TheVariants as faults
+use Rattle.http_routes.specs.declared.table.Row.{Row}
+use Rattle.http_routes.specs.declared.http_reply.HttpReply.{HttpReply}
+use Rattle.http_routes.specs.Replies.{ReplyValue, IsReply, http_value, no_memory, request_fault_reply}
 use Rattle.http.specs.Uri.{uri_path}
 use Rattle.hyper.specs.declared.body.incoming.Incoming.{Incoming}
 use Rattle.hyper.specs.declared.error.Error.{Error}
@@ -30,7 +33,8 @@ use Rattle.http_service.specs.declared.exchange.Exchange.{Exchange}
 use Rattle.http_service.specs.declared.exchange.Reading.{Reading}
 use Rattle.http_service.specs.declared.heads.Refusal.{Refusal}
 use Rattle.http_service.specs.declared.labels.Labels.{Labels}
-use Rattle.http_service.specs.Labels.{label_fields, plain_labels, with_tag}
+use Rattle.http_service.specs.declared.question.Question.{Question}
+use Rattle.http_service.specs.Labels.{label_fields, labels_of, plain_labels, with_tag}
 use Rattle.http_service.specs.Tags.{is_had, tag_of}
 use Rattle.http_service.specs.Heads.{refusal_labels, refusal_of, refusal_reply}
 use Rattle.http_service.specs.Keys.{credentials_in, key_need}
@@ -74,18 +78,40 @@ EndsSo source had readings.NoMemory has = Unit {0}
 abbrev pub TellsTooLong : {I : Type 0} → Incoming I → Type 0
 TellsTooLong body = IsSomeAnd (size_left body.kind) (λ told. max_message < told)
 
--- what is asked beside the body, and whom: nobody where there was no memory
+-- what a request asks for beside its body, and whom
+pub record QuestionValue (H : Type 0) : Type 0 where
+  pub handler : H
+  pub asked : AskedValue
+
+abbrev pub question_value : {H : Type 0} → Question H → QuestionValue H
+question_value question =
+    record { handler = arc_value question.handler; asked = asked_value question.asked }
+
+-- what is asked of a handler, if there is one
+abbrev pub question_to : {H : Type 0} → Option H → AskedValue → Option (QuestionValue H)
+question_to handler asked = option_map (λ h. record { handler = h; asked = asked }) handler
+
+-- a question, or none where there was no memory, and the fields of the head
 pub record Asking (H : Type 0) : Type 0 where
-  pub handler : Option H
-  pub method : List ℕ
-  pub path : List ℕ
+  pub question : Option (QuestionValue H)
   pub fields : Entries FieldValue
 
-module _ {H : Type 0} (answers : H → List ℕ → List ℕ → List ℕ → ReplyValue → Type 0) where
-  -- the reply is the handler's to a request with this body; where there is none, that there was no memory
+-- The reply to what a request asks for, with this body: it says why nothing is asked of the handler, or it is what the
+-- handler may answer.
+abbrev pub AnswersAsked : (RequestValue → Row → List ℕ → ReplyValue → Type 0) → AskedValue → List ℕ → ReplyValue →
+    Type 0
+AnswersAsked answers nowhere body given = IsReply (request_fault_reply faults.NotFound) given
+AnswersAsked answers (other_method methods) body given = IsReply (request_fault_reply faults.BadMethod) given
+AnswersAsked answers (known request row) body given =
+    MatchBool (nat_lt max_message (length body)) (IsReply (request_fault_reply faults.TooLong) given)
+    (answers request row body given)
+
+module _ {H : Type 0} (answers : H → RequestValue → Row → List ℕ → ReplyValue → Type 0) where
+  -- the reply to a question with this body; where there is none, that there was no memory
   abbrev pub IsAnswerTo : Asking H → List ℕ → ReplyValue → Type 0
   IsAnswerTo asking body given =
-      MatchOption asking.handler (given ≡ no_memory) (λ handler. answers handler asking.method asking.path body given)
+      MatchOption asking.question (given ≡ no_memory)
+      (λ question. AnswersAsked (answers question.handler) question.asked body given)
 
   -- What a request comes to by how its body's reading ended. Of a body that is longer than the longest the reply is one
   -- to any such body; a broken one has none.
@@ -132,13 +158,10 @@ Responds fields labels (Ok reply) (Ok response) =
 Responds fields labels (Ok reply) (Err error) = kind_of error ≡ kinds.OutOfMemory
 Responds fields labels (Err error) given = given ≡ Err error
 
--- what a reply is labelled as: by the path where a handler was asked, and else as a text
-abbrev pub labels_asked : {H : Type 0} → (ℕ → Labels) → Option H → ℕ → Labels
-labels_asked labels None status = plain_labels
-labels_asked labels (Some handler) status = labels status
-
-abbrev pub labels_by : {H : Type 0} → (List ℕ → ℕ → Labels) → Asking H → ℕ → Labels
-labels_by labelled asking status = labels_asked (labelled asking.path) asking.handler status
+-- what a reply is labelled as: by what was asked for, and as a text where nothing was
+abbrev pub labels_by : {H : Type 0} → Option (QuestionValue H) → ℕ → Labels
+labels_by None status = plain_labels
+labels_by (Some question) status = labels_of question.asked status
 
 -- a head that is refused is answered so, unless memory was refused
 abbrev pub IsRefused : Entries FieldValue → Refusal → Result (Response (Full (List ℕ))) Error → Type 0
@@ -146,44 +169,32 @@ IsRefused fields refusal given =
     (reply : HttpReply) × IsReply (refusal_reply refusal) (http_value reply)
     × Responds fields (λ _. refusal_labels refusal) (Ok reply) given
 
--- what a request asks of a handler
-abbrev pub asking_by : {I H : Type 0} → Request (Incoming I) → Option H → Asking H
-asking_by req handler =
-    record {
-      handler = handler;
-      method = (request.head_of req).method;
-      path = uri_path (request.head_of req).uri;
-      fields = (request.head_of req).headers;
-    }
-
-module _ {H : Type 0} (answers : H → List ℕ → List ℕ → List ℕ → ReplyValue → Type 0)
-    (labelled : List ℕ → ℕ → Labels) where
+module _ {H : Type 0} (answers : H → RequestValue → Row → List ℕ → ReplyValue → Type 0) where
   -- the request comes to that reply by how its body's reading ended, and it is what is given
   pub record IsAnswered (asking : Asking H) (reading : Reading) (body : List ℕ)
       (given : Result (Response (Full (List ℕ))) Error) : Type 0 where
     pub reply : Result HttpReply Error
     pub comes : ComesTo answers asking reading body reply
-    pub responds : Responds asking.fields (labels_by labelled asking) reply given
+    pub responds : Responds asking.fields (labels_by asking.question) reply given
 
 module _ {I H R : Type 0} where
   abbrev pub asking_of : Exchange I H R → Asking H
-  asking_of e =
-      record {
-        handler = option_map arc_value e.handler;
-        method = e.method;
-        path = uri_path e.uri;
-        fields = e.fields;
-      }
+  asking_of e = record { question = option_map question_value e.question; fields = e.fields }
 
-  -- the exchange of a request: it asks the service's handler, or nobody where the head or memory was refused; the body
-  -- is the request's, up to the longest one, and nothing of it is read yet
+  -- what a request asks for by its method and its path, of a service with these routes
+  abbrev pub asked_by : ConnectionService H R → Request (Incoming I) → AskedValue
+  asked_by service req = asked_of service.set (request.head_of req).method (uri_path (request.head_of req).uri)
+
+  -- the exchange of a request: it asks the service's handler for what the request asks for, or nobody where the head or
+  -- memory was refused; the body is the request's, up to the longest one, and nothing of it is read yet
   pub record IsExchangeOf (service : ConnectionService H R) (req : Request (Incoming I)) (e : Exchange I H R) :
       Type 0 where
     pub refusal : e.refusal ≡ refusal_of (credentials_in service.access)
-        (key_need service.access.page (request.head_of req).method (uri_path (request.head_of req).uri)) service.port
-        (request.head_of req).headers
-    pub asks : ((e.refusal ≡ None) × (asking_of e ≡ asking_by req (option_map arc_value service.handler)))
-        ⊎ (asking_of e ≡ asking_by req None)
+        (key_need (asked_by service req)) service.port (request.head_of req).headers
+    pub asks : ((e.refusal ≡ None) × ((asking_of e).question
+        ≡ question_to (option_map arc_value service.handler) (asked_by service req)))
+        ⊎ ((asking_of e).question ≡ None)
+    pub fields : e.fields ≡ (request.head_of req).headers
     pub told : IsTrue e.is_too_long ↔ TellsTooLong (request.body_of req)
     pub body : e.body ≡ record { remaining = max_message; inner = request.body_of req }
     pub read : e.read.items ≡ []
@@ -194,13 +205,13 @@ module _ {I H R : Type 0} where
       (IsTrue e.is_too_long × (reading ≡ readings.TooLong))
       ⊎ (IsFalse e.is_too_long × EndsSo (pieces_of e.body) e.read.items reading has)
 
-  module _ (answers : H → List ℕ → List ℕ → List ℕ → ReplyValue → Type 0) (labelled : List ℕ → ℕ → Labels) where
+  module _ (answers : H → RequestValue → Row → List ℕ → ReplyValue → Type 0) where
     -- the reading of what is left of the body ends so, and what is given is by that
     pub record GivesRead (e : Exchange I H R) (given : Result (Response (Full (List ℕ))) Error) : Type 0 where
       pub reading : Reading
       pub body : List ℕ
       pub ends : ReadsSo e reading body
-      pub answered : IsAnswered answers labelled (asking_of e) reading body given
+      pub answered : IsAnswered answers (asking_of e) reading body given
 
     -- The same; where the head was refused, nobody is asked and nothing of the body is read: what is given says why.
     abbrev pub Gives : Exchange I H R → Result (Response (Full (List ℕ))) Error → Type 0

@@ -7,7 +7,7 @@ use Rattle.std.specs.Char.{to_ascii_lowercase}
 use Rattle.decimals.specs.Decimals.{number_of}
 use Rattle.http_header.specs.FieldValue.{FieldValue}
 use Rattle.http_header.specs.HeaderMap.{Entries, get_all}
-use Rattle.http_replies.specs.Replies.{ReplyValue, text_reply}
+use Rattle.http_routes.specs.Replies.{ReplyValue, text_reply}
 use Rattle.http_service.specs.declared.access.KeyNeed.{KeyNeed}
 use Rattle.http_service.specs.declared.access.KeyNeed.TheVariants.{Needed, Waived}
 use Rattle.http_service.specs.declared.heads.Refusal.{Refusal}

@@ -1,57 +1,15 @@
 -- What the header fields of a reply say.
-use Rattle.std.specs.Prelude.{◌==◌, ◌||◌, ℕ, Bool, true, false, List, [], ◌∷◌, codes, bytes_eq, if◌then◌else◌, Option, Some, None, option_map}
+use Rattle.std.specs.Prelude.{◌==◌, ℕ, Bool, true, false, List, [], ◌∷◌, codes, if◌then◌else◌, Option, Some, None}
 use Rattle.http_header.specs.FieldValue.{FieldValue, plain_value}
 use Rattle.http_header.specs.HeaderMap.{Entry, Entries, insert}
-use Rattle.http_paths.specs.Paths.{TargetValue}
-use Rattle.http_paths.specs.Paths as paths
+use Rattle.http_routes.specs.Asked.{AskedValue, nowhere, other_method, known}
+use Rattle.http_routes.specs.Table.{methods_text}
+use Rattle.http_routes.specs.declared.table.Content.{Content}
+use Rattle.http_routes.specs.declared.table.Content.TheVariants.{Text, Json, Page}
+use Rattle.http_routes.specs.declared.table.Methods.{Methods}
+use Rattle.http_routes.specs.declared.table.Tagging.TheVariants.{Untagged}
 use Rattle.operator_page.specs.declared.page.TheConstants.{POLICY}
-use Rattle.http_service.specs.declared.labels.Content.{Content}
-use Rattle.http_service.specs.declared.labels.Content.TheVariants.{Text, Json, Page}
-use Rattle.http_service.specs.declared.labels.Methods.{Methods}
-use Rattle.http_service.specs.declared.labels.Methods.TheVariants.{Get, Post, PutOrDelete, PutOrPost}
-use Rattle.http_service.specs.declared.labels.Tagging.{Tagging}
-use Rattle.http_service.specs.declared.labels.Tagging.TheVariants.{Tagged, Untagged}
 use Rattle.http_service.specs.declared.labels.Labels.{Labels}
-
--- the methods of a path
-abbrev pub methods_of : TargetValue → Methods
-methods_of paths.points = Get
-methods_of (paths.point name) = PutOrDelete
-methods_of paths.load = Post
-methods_of (paths.shift name term to amount) = Post
-methods_of (paths.grant name term amount) = Post
-methods_of paths.gossip = Post
-methods_of paths.report = Get
-methods_of paths.status = Get
-
--- whether a method is one of them
-abbrev pub has_method : Methods → List ℕ → Bool
-has_method Get method = bytes_eq method (codes "GET")
-has_method Post method = bytes_eq method (codes "POST")
-has_method PutOrDelete method = bytes_eq method (codes "PUT") || bytes_eq method (codes "DELETE")
-has_method PutOrPost method = bytes_eq method (codes "PUT") || bytes_eq method (codes "POST")
-
--- the report and the status are JSON, and anything else is a text
-abbrev pub content_at : Option TargetValue → Content
-content_at (Some paths.report) = Json
-content_at (Some paths.status) = Json
-content_at _ = Text
-
--- the status is asked for again and again, and is mostly what it was
-abbrev pub tagging_at : Option TargetValue → Tagging
-tagging_at (Some paths.status) = Tagged
-tagging_at _ = Untagged
-
--- what a reply with this status to a request of this path is labelled as: where the method isn't one of the path's,
--- those that are
-abbrev pub labels_of : Option TargetValue → ℕ → Labels
-labels_of target status =
-    record {
-      content = if status == 200 then content_at target else Text;
-      methods = if status == 405 then option_map methods_of target else None;
-      asks_for_key = false;
-      tagging = if status == 200 then tagging_at target else Untagged;
-    }
 
 -- a text
 abbrev pub plain_labels : Labels
@@ -61,16 +19,18 @@ plain_labels = record { content = Text; methods = None; asks_for_key = false; ta
 abbrev pub key_labels : Labels
 key_labels = record { content = Text; methods = None; asks_for_key = true; tagging = Untagged }
 
+-- what a reply with this status is labelled as, by what its request asks for: by the row of the route, where the status
+-- is 200; and where the route has another method than the one that was sent, by those that it has
+abbrev pub labels_of : AskedValue → ℕ → Labels
+labels_of nowhere status = plain_labels
+labels_of (other_method methods) status = record plain_labels { methods = Some methods }
+labels_of (known request row) status =
+    if status == 200 then record plain_labels { content = row.content; tagging = row.tagging } else plain_labels
+
 abbrev pub content_text : Content → List ℕ
 content_text Text = codes "text/plain; charset=utf-8"
 content_text Json = codes "application/json"
 content_text Page = codes "text/html; charset=utf-8"
-
-abbrev pub methods_text : Methods → List ℕ
-methods_text Get = codes "GET"
-methods_text Post = codes "POST"
-methods_text PutOrDelete = codes "PUT, DELETE"
-methods_text PutOrPost = codes "PUT, POST"
 
 abbrev pub field : List ℕ → List ℕ → Entry FieldValue
 field name value = (name, plain_value value ∷ [])

@@ -5,5 +5,4 @@ pub mod FaultText
 pub mod Heads
 pub mod Keys
 pub mod Labels
-pub mod Pages
 pub mod Tags

@@ -5,8 +5,8 @@ use Rattle.sha2.specs.Sha256.{sha256}
 use Rattle.hex.specs.Hex.{encode_lower}
 use Rattle.http_header.specs.FieldValue.{FieldValue, plain_value}
 use Rattle.http_header.specs.HeaderMap.{Entries, get_all}
-use Rattle.http_service.specs.declared.labels.Tagging.{Tagging}
-use Rattle.http_service.specs.declared.labels.Tagging.TheVariants.{Tagged, Untagged}
+use Rattle.http_routes.specs.declared.table.Tagging.{Tagging}
+use Rattle.http_routes.specs.declared.table.Tagging.TheVariants.{Tagged, Untagged}
 
 -- the SHA-256 of a body in hex digits, between quotes
 abbrev pub quoted_hash : List ℕ → List ℕ

@@ -3,12 +3,12 @@
 ghost use Rattle.std.specs.Prelude.{◌≡◌, ◌↔◌, ◌<◌, length, bytes_eq, option_map, IfOk, IsErrOf, IfSome};
 ghost use Rattle.std.specs.Prelude.{Some, None, string_bytes};
 ghost use Rattle.std.specs.Arc.{arc_value};
+ghost use Rattle.http_routes.specs.Asked.{asked_value};
 ghost use Rattle.http_service.specs.Keys.{are_said, credentials_in, credentials_of, has_credentials, key_need};
-ghost use Rattle.http_service.specs.Pages.{shows_page};
 
-use crate::handler::shows_page;
 use hex::encode;
 use http::header::{AUTHORIZATION, HeaderMap};
+use http_routes::{Asked, Request};
 use std::alloc::{AllocError, Global};
 use std::sync::Arc;
 
@@ -35,13 +35,6 @@ impl From<AllocError> for KeyFault {
     }
 }
 
-/// Whether a service has the operator's page, which anybody may see.
-#[derive(Clone, Copy)]
-pub enum Page {
-    Shown,
-    Absent,
-}
-
 /// Whether a request needs the key of a service that has one.
 #[derive(Clone, Copy)]
 pub enum KeyNeed {
@@ -54,7 +47,6 @@ pub enum KeyNeed {
 pub struct Access {
     // What the `Authorization` of a request says that has the key, if there is one.
     credentials: Option<Arc<String>>,
-    page: Page,
 }
 
 impl Access {
@@ -62,10 +54,7 @@ impl Access {
     pub fn of_this_machine() -> Access
         ensures { credentials_in result ≡ None }
     {
-        Access {
-            credentials: None,
-            page: Page::Absent,
-        }
+        Access { credentials: None }
     }
 
     /// Of a service that may be asked by whoever has this key, from wherever. It has at least 32
@@ -80,45 +69,18 @@ impl Access {
         let credentials = shared_credentials(alloc, key)?;
         Ok(Access {
             credentials: Some(credentials),
-            page: Page::Absent,
         })
     }
 
     /// The same for one more connection. `None` where it can't be shared any more.
     pub(crate) fn again(&self) -> Option<Access>
-        ensures credentials { IfSome result
-            (λ access. credentials_in access ≡ credentials_in self.now) }
-        ensures page { IfSome result (λ access. access.page ≡ self.now.page) }
+        ensures { IfSome result (λ access. credentials_in access ≡ credentials_in self.now) }
     {
         let credentials = match &self.credentials {
             Some(credentials) => Some(Arc::try_clone(credentials).ok()?),
             None => None,
         };
-        Some(Access {
-            credentials,
-            page: self.page,
-        })
-    }
-
-    /// The same of a service that has the operator's page, which anybody may see.
-    pub(crate) fn with_page(self) -> Access
-        ensures credentials { credentials_in result ≡ credentials_in self }
-        ensures page { result.page ≡ Page.Shown }
-    {
-        Access {
-            page: Page::Shown,
-            ..self
-        }
-    }
-
-    /// Whether a request needs the key, where there is one.
-    pub(crate) fn key_need(&self, method: &str, path: &str) -> KeyNeed
-        ensures { result ≡ key_need self.now.page method.now path.now }
-    {
-        match self.page {
-            Page::Shown if shows_page(method, path) => KeyNeed::Waived,
-            Page::Shown | Page::Absent => KeyNeed::Needed,
-        }
+        Some(Access { credentials })
     }
 
     /// What the `Authorization` of a request says that has the key, if there is one.
@@ -137,6 +99,19 @@ fn shared_credentials(alloc: Global, key: &[u8]) -> Result<Arc<String>, AllocErr
     let digits = encode(alloc, key)?;
     let credentials = format!(in alloc; "Bearer {digits}")?;
     Ok(Arc::new(alloc, credentials)?)
+}
+
+/// Whether a request needs the key of a service that has one. Anybody may see the operator's page.
+pub(crate) fn key_need(asked: &Asked<'_>) -> KeyNeed
+    ensures { result ≡ key_need (asked_value asked.now) }
+{
+    match asked {
+        Asked::Known {
+            request: Request::Page,
+            ..
+        } => KeyNeed::Waived,
+        _ => KeyNeed::Needed,
+    }
 }
 
 /// Whether a head with these fields has these credentials, once.

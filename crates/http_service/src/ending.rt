@@ -1,11 +1,12 @@
 //! The end of a service before all clients were let in that it waits for.
 
-ghost use Rattle.std.specs.Prelude.{◌≡◌, take, length, bytes_eq, codes, IfSome, IsSomeAnd, MatchOption};
-ghost use Rattle.http_replies.specs.Replies.{http_value, text_reply, IsReply};
-ghost use Rattle.http_service.specs.Endings.{reason_in, IsEnded};
+ghost use Rattle.std.specs.Prelude.{◌≡◌, codes, IfSome, IsSomeAnd, MatchOption};
+ghost use Rattle.http_routes.specs.Replies.{http_value, text_reply, IsReply};
+ghost use Rattle.http_service.specs.Endings.{reason_of, IsEnded};
 ghost use Rattle.http_service.specs.declared.ending.Reason.TheVariants.{Asked};
 
-use http_replies::HttpReply;
+use http_routes::HttpReply;
+use node_calls::NodeFault;
 use std::alloc::{AllocError, Global};
 use std::sync::{Arc, OnceLock, OnceToken, Wait};
 use tokio::sync::{Notify, OwnedNotified};
@@ -70,7 +71,7 @@ impl Ending {
 
     /// Ends the service, and answers what the client is told that asked for it. Nothing is asked of a
     /// node.
-    pub(crate) fn stop<R: Wait>(&self, rt: &R, alloc: Global) -> LastReply<'_>
+    pub fn stop<R: Wait>(&self, rt: &R, alloc: Global) -> LastReply<'_>
         ensures told { IsReply (text_reply 200 (codes "stopping")) (http_value result.reply) }
         ensures ended { IsEnded self.now.reason.id Asked result.ended }
     {
@@ -80,12 +81,12 @@ impl Ending {
         }
     }
 
-    /// Ends the service where a reply shows that others know more of the node than it does.
-    pub(crate) fn meet<R: Wait>(&self, rt: &R, reply: &HttpReply) -> Option<Ended<'_>>
-        ensures { MatchOption (reason_in (http_value reply.now)) (result ≡ None)
+    /// Ends the service if a reply shows that others know more of the node than it does.
+    pub fn meet<R: Wait>(&self, rt: &R, reply: &HttpReply) -> Option<Ended<'_>>
+        ensures { MatchOption (reason_of reply.now.fault) (result ≡ None)
             (λ reason. IsSomeAnd result (IsEnded self.now.reason.id reason)) }
     {
-        let reason = reason_in(reply)?;
+        let reason = reason_of(reply.fault)?;
         Some(self.end(rt, reason))
     }
 
@@ -110,28 +111,15 @@ impl Ending {
     }
 }
 
-// Whether bytes begin with these.
-fn begins(bytes: &[u8], front: &[u8]) -> bool
-    ensures { result ≡ bytes_eq (take (length front.now) bytes.now) front.now }
+// Why the fault of a reply ends the node's service, if it does.
+fn reason_of(fault: Option<NodeFault>) -> Option<Reason>
+    ensures { result ≡ reason_of fault }
 {
-    let (start, _) = bytes.split_at(front.len().min(bytes.len()));
-    start == front
-}
-
-// Why a reply of the node ends its service, if it does.
-fn reason_in(reply: &HttpReply) -> Option<Reason>
-    ensures { result ≡ reason_in (http_value reply.now) }
-{
-    if reply.status != 400 {
-        return None;
+    match fault {
+        Some(NodeFault::OwnAhead) => Some(Reason::OwnAhead),
+        Some(NodeFault::AckAhead) => Some(Reason::AckAhead),
+        _ => None,
     }
-    if begins(&reply.body, b"N18 ") {
-        return Some(Reason::OwnAhead);
-    }
-    if begins(&reply.body, b"N19 ") {
-        return Some(Reason::AckAhead);
-    }
-    None
 }
 
 /// How a service ended.

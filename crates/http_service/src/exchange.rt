@@ -14,18 +14,20 @@ ghost use Rattle.hyper.specs.Error.{kind_of};
 ghost use Rattle.hyper.specs.declared.error.Kind.TheVariants as kinds;
 ghost use Rattle.tokio.specs.Locks.{CanAcquire};
 ghost use Rattle.http.specs.StatusCode.{IsStatusCode};
-ghost use Rattle.http_replies.specs.Replies.{http_value};
-ghost use Rattle.http_service.specs.Exchanges.{asking_of, pieces_of, ComesTo, EndsSo, Gives, GoesOn};
+ghost use Rattle.http_routes.specs.Replies.{http_value};
+ghost use Rattle.http_routes.specs.Asked.{asked_value};
+ghost use Rattle.http_service.specs.Exchanges.{asking_of, labels_by, pieces_of, ComesTo, EndsSo};
+ghost use Rattle.http_service.specs.Exchanges.{question_to, question_value, Gives, GoesOn};
 ghost use Rattle.http_service.specs.Exchanges.{IsExchangeOf, IsResponseTo, Responds, TakesIn};
 ghost use Rattle.http_service.specs.Exchanges.{IsAnswered, IsAnswerTo, IsUnchanged, IsWhole, TellsTooLong};
-ghost use Rattle.http_service.specs.Exchanges.{labels_by};
 ghost use Rattle.http_service.specs.Labels.{label_fields, with_tag};
 
-use crate::access::Access;
+use crate::access::{Access, key_need};
 use crate::handler::Handler;
 use crate::heads::{Refusal, judge};
 use crate::labels::{Labels, tag_alone};
 use crate::permits::Permits;
+use crate::question::Question;
 use crate::tags::{is_had, tag_of};
 use bytes::Bytes;
 use futures::task::{Context, Poll};
@@ -33,11 +35,10 @@ use futures::{Future, Stream, ready};
 use http::header::{HeaderMap, HeaderValue};
 use http_body::{Body, Frame};
 use http_body_util::{Full, Limited, LimitedError};
-use http_replies::HttpReply;
+use http_routes::{Asked, HttpReply, MAX_BODY, RouteSet, Routes};
 use hyper::body::Incoming;
 use hyper::service::Service;
-use hyper::{Method, Request, Response, StatusCode, Uri};
-use message_format::MAX_MESSAGE;
+use hyper::{Request, Response, StatusCode};
 use std::alloc::{AllocError, Global};
 use std::mem;
 use std::sync::{Arc, Wait};
@@ -59,6 +60,9 @@ pub struct ConnectionService<H, R> {
     pub alloc: Global,
     pub rt: R,
     pub handler: Option<Arc<H>>,
+    pub routes: Arc<Routes>,
+    /// Which of them the program offers.
+    pub set: RouteSet,
     /// The permits of long bodies.
     pub long: Option<Permits>,
     /// Who may ask.
@@ -75,9 +79,7 @@ pub struct Exchange<I, H, R> {
     // Why the head is answered without the handler, if it is.
     refusal: Option<Refusal>,
     // There is none where the head or memory was refused.
-    handler: Option<Arc<H>>,
-    method: Method,
-    uri: Uri,
+    question: Option<Question<H>>,
     fields: HeaderMap,
     // The head tells of a body that is longer than the longest: nothing of it is read.
     is_too_long: bool,
@@ -98,19 +100,28 @@ enum Reading {
 }
 
 impl<H, R> ConnectionService<H, R> {
-    // Who is asked for the reply, and the permits of which the body needs one. Where there is no memory
-    // for these, nobody is.
-    fn asked(&self, needs_permit: bool) -> (Option<Permits>, Option<Arc<H>>)
+    // What is asked, and the permits of which the body needs one. Nobody is asked where the head was
+    // refused, or where there is no memory for these.
+    fn question(
+        &self,
+        refusal: Option<Refusal>,
+        asked: Asked<'_>,
+        needs_permit: bool,
+    ) -> (Option<Permits>, Option<Question<H>>)
         ensures needed { IsTrue needs_permit → result.0 ≡ None → result.1 ≡ None }
         ensures permits { IfSome result.0 (λ permits. IfSome permits.waiting CanAcquire) }
-        ensures handler { (option_map arc_value result.1 ≡ option_map arc_value self.now.handler)
+        ensures question { ((refusal ≡ None) × (option_map question_value result.1
+            ≡ question_to (option_map arc_value self.now.handler) (asked_value asked.entry)))
             ⊎ (result.1 ≡ None) }
     {
+        if refusal.is_some() {
+            return (None, None);
+        }
         if !needs_permit {
-            return (None, shared(&self.handler));
+            return (None, Question::to(self.alloc, &self.handler, asked));
         }
         match again(&self.long) {
-            Some(long) => (Some(long), shared(&self.handler)),
+            Some(long) => (Some(long), Question::to(self.alloc, &self.handler, asked)),
             None => (None, None),
         }
     }
@@ -128,25 +139,20 @@ impl<I: Drop, H: Handler, R: Wait + Clock + Copy> Service<Request<Incoming<I>>>
 
     fn call(&self, req: Request<Incoming<I>>) -> Exchange<I, H, R> {
         let (head, body) = req.into_parts();
-        let need = self.access.key_need(head.method.as_str(), head.uri.path());
-        let refusal = judge(&head.headers, &self.access, need, self.port);
+        let (method, uri, fields) = (head.method, head.uri, head.headers);
+        let asked = self.routes.asked(self.set, method.as_str(), uri.path());
+        let refusal = judge(&fields, &self.access, key_need(&asked), self.port);
         let is_too_long = tells_too_long(&body);
         let needs_permit = !is_too_long && !is_short(&body);
-        let (long, handler) = if refusal.is_none() {
-            self.asked(needs_permit)
-        } else {
-            (None, None)
-        };
+        let (long, question) = self.question(refusal, asked, needs_permit);
         Exchange {
             alloc: self.alloc,
             rt: self.rt,
             refusal,
-            handler,
-            method: head.method,
-            uri: head.uri,
-            fields: head.headers,
+            question,
+            fields,
             is_too_long,
-            body: Limited::new(body, MAX_MESSAGE),
+            body: Limited::new(body, MAX_BODY),
             read: Vec::new(self.alloc),
             permits: long,
             permit: None,
@@ -173,9 +179,8 @@ impl<I: Drop, H: Handler, R: Wait + Clock + Copy> Exchange<I, H, R> {
     fn reply_to(&self, body: Vec<u8>) -> HttpReply
         ensures { IsAnswerTo H.answers (asking_of self.now) body.items (http_value result) }
     {
-        let (method, path) = (self.method.as_str(), self.uri.path());
-        match &self.handler {
-            Some(handler) => handler.reply(&self.rt, self.alloc, method, path, body),
+        match &self.question {
+            Some(question) => question.reply(&self.rt, self.alloc, body),
             None => HttpReply::no_memory(self.alloc),
         }
     }
@@ -185,10 +190,8 @@ impl<I: Drop, H: Handler, R: Wait + Clock + Copy> Exchange<I, H, R> {
         ensures { (longer : List ℕ) → max_message < length longer
             → IsAnswerTo H.answers (asking_of self.now) longer (http_value result) }
     {
-        match &self.handler {
-            Some(handler) => {
-                handler.reply_too_long(self.alloc, self.method.as_str(), self.uri.path())
-            }
+        match &self.question {
+            Some(question) => question.reply_too_long(self.alloc),
             None => HttpReply::no_memory(self.alloc),
         }
     }
@@ -196,18 +199,17 @@ impl<I: Drop, H: Handler, R: Wait + Clock + Copy> Exchange<I, H, R> {
     // What the reply is labelled as.
     fn labels(&self, reply: &hyper::Result<HttpReply>) -> Labels
         ensures { IfOk reply.now
-            (λ r. result ≡ labels_by H.labelled (asking_of self.now) r.status) }
+            (λ r. result ≡ labels_by (asking_of self.now).question r.status) }
     {
-        match (&self.handler, reply) {
-            (Some(handler), Ok(reply)) => handler.labels(self.uri.path(), reply.status),
+        match (&self.question, reply) {
+            (Some(question), Ok(reply)) => question.labels(reply.status),
             _ => Labels::plain(),
         }
     }
 
     // What is given, once the body was read so far.
     fn answer(&mut self, reading: Reading) -> hyper::Result<Response<Full<Bytes>>>
-        ensures { IsAnswered H.answers H.labelled (asking_of self.old) reading
-            self.old.read.items result }
+        ensures { IsAnswered H.answers (asking_of self.old) reading self.old.read.items result }
     {
         let reply = self.reply(reading);
         let labels = self.labels(&reply);
@@ -229,7 +231,7 @@ impl<I: Drop, H: Handler, R: Wait + Clock + Copy> Exchange<I, H, R> {
         ensures armed { OnPending result (IsArmed cx.new) }
         ensures kept { Keeps cx.old cx.new }
     {
-        if self.handler.is_none() {
+        if self.question.is_none() {
             return Poll::Ready(Reading::NoMemory);
         }
         if !ready!(poll_permit(&mut self.permits, &mut self.permit, cx)) {
@@ -244,7 +246,7 @@ impl<I: Drop, H: Handler, R: Wait + Clock + Copy> Future for Exchange<I, H, R> {
 
     ghost can_poll = { λ e. IfSome e.permits (λ permits. IfSome permits.waiting CanAcquire) };
 
-    ghost gives = { Gives H.answers H.labelled };
+    ghost gives = { Gives H.answers };
 
     fn poll(&mut self, cx: &mut Context<'_>) -> Poll<hyper::Result<Response<Full<Bytes>>>> {
         if let Some(refusal) = self.refusal {
@@ -273,7 +275,7 @@ fn tells_too_long<I: Drop>(body: &Incoming<I>) -> bool
     ensures { IsTrue result ↔ TellsTooLong body.now }
 {
     match body.size_hint().exact() {
-        Some(told) => told > MAX_MESSAGE as u64,
+        Some(told) => told > MAX_BODY as u64,
         None => false,
     }
 }
@@ -359,13 +361,6 @@ fn broken_off(error: LimitedError<hyper::Error>) -> Reading
         LimitedError::LengthLimit => Reading::TooLong,
         LimitedError::Body(e) => Reading::Broken(e),
     }
-}
-
-// Another owner of the handler, if there is the memory.
-fn shared<H>(handler: &Option<Arc<H>>) -> Option<Arc<H>>
-    ensures { (option_map arc_value result ≡ option_map arc_value handler.now) ⊎ (result ≡ None) }
-{
-    Arc::try_clone(handler.as_ref()?).ok()
 }
 
 // A share of these permits for another body.

@@ -3,7 +3,7 @@
 ghost use Rattle.std.specs.Prelude.{◌≡◌, ◌++◌, bytes_eq, codes, option_copied};
 ghost use Rattle.http_header.specs.HeaderMap.{get_all};
 ghost use Rattle.std.specs.List.{list_all};
-ghost use Rattle.http_replies.specs.Replies.{http_value, IsReply};
+ghost use Rattle.http_routes.specs.Replies.{http_value, IsReply};
 ghost use Rattle.http_service.specs.Heads.{all_pass, is_alike, is_at, is_chunked, is_of_host};
 ghost use Rattle.http_service.specs.Heads.{is_own_page, is_port, is_served_address};
 ghost use Rattle.http_service.specs.Heads.{is_this_machine, may_end_host, only_one, own_host};
@@ -15,7 +15,7 @@ use crate::access::{Access, KeyNeed, has_credentials};
 use crate::labels::Labels;
 use decimals::number;
 use http::header::{HOST, HeaderMap, ORIGIN, TRANSFER_ENCODING};
-use http_replies::HttpReply;
+use http_routes::HttpReply;
 use itoa::Buffer;
 use std::alloc::Global;
 use std::str;

@@ -1,52 +1,27 @@
 //! What the header fields of a reply say.
 
-ghost use Rattle.std.specs.Prelude.{◌≡◌, [], codes, IfOk, option_map};
+ghost use Rattle.std.specs.Prelude.{◌≡◌, [], codes, IfOk};
 ghost use Rattle.http_header.specs.HeaderMap.{insert};
 ghost use Rattle.http_header.specs.FieldValue.{plain_value};
-ghost use Rattle.http_paths.specs.Targets.{target_value};
-ghost use Rattle.http_service.specs.Labels.{content_at, content_text, label_fields, labels_of};
-ghost use Rattle.http_service.specs.Labels.{methods_of, methods_text, plain_labels, with_methods};
-ghost use Rattle.http_service.specs.Labels.{tagging_at, type_fields, with_challenge, with_policy};
+ghost use Rattle.http_routes.specs.Asked.{asked_value};
+ghost use Rattle.http_routes.specs.Table.{methods_text};
+ghost use Rattle.http_service.specs.Labels.{content_text, label_fields, labels_of, plain_labels};
+ghost use Rattle.http_service.specs.Labels.{type_fields, with_challenge, with_methods, with_policy};
 ghost use Rattle.http_service.specs.Labels.{with_policy_of, with_tag};
 
 use http::header::{
     ALLOW, CACHE_CONTROL, CONTENT_SECURITY_POLICY, CONTENT_TYPE, ETAG, HeaderMap, HeaderName,
     HeaderValue, REFERRER_POLICY, WWW_AUTHENTICATE, X_CONTENT_TYPE_OPTIONS,
 };
-use http_paths::Target;
+use http_routes::{Asked, Content, Methods, Tagging};
 use operator_page::POLICY;
 use std::alloc::{AllocError, Global};
-
-/// What a body is.
-#[derive(Clone, Copy, Debug, PartialEq, Eq)]
-pub enum Content {
-    Text,
-    Json,
-    /// The operator's page.
-    Page,
-}
-
-/// The methods of a path.
-#[derive(Clone, Copy, Debug, PartialEq, Eq)]
-pub enum Methods {
-    Get,
-    Post,
-    PutOrDelete,
-    PutOrPost,
-}
-
-/// Whether a body is told with a tag, by which a client may ask later for another one only.
-#[derive(Clone, Copy, Debug, PartialEq, Eq)]
-pub enum Tagging {
-    Untagged,
-    Tagged,
-}
 
 /// What the header fields of a reply say of it.
 #[derive(Clone, Copy, Debug, PartialEq, Eq)]
 pub struct Labels {
     pub content: Content,
-    /// The methods that the path has, in place of the one that was sent.
+    /// The methods that the route has, in place of the one that was sent.
     pub methods: Option<Methods>,
     /// A key has to be sent, and how.
     pub asks_for_key: bool,
@@ -66,28 +41,21 @@ impl Labels {
         }
     }
 
-    /// Those of a reply with this status to a request whose path leads there.
-    pub fn of(target: &Option<Target<'_>>, status: u16) -> Labels
-        ensures { result ≡ labels_of (option_map target_value target.now) status }
+    /// Those of a reply with this status to a request that asks for this.
+    pub fn of(asked: &Asked<'_>, status: u16) -> Labels
+        ensures { result ≡ labels_of (asked_value asked.now) status }
     {
-        let is_answered = status == 200;
-        let is_of_another_method = status == 405;
-        Labels {
-            content: if is_answered {
-                content_of(target)
-            } else {
-                Content::Text
+        match asked {
+            Asked::Known { row, .. } if status == 200 => Labels {
+                content: row.content,
+                tagging: row.tagging,
+                ..Labels::plain()
             },
-            methods: match target {
-                Some(target) if is_of_another_method => Some(methods_at(target)),
-                _ => None,
+            Asked::OtherMethod(methods) => Labels {
+                methods: Some(*methods),
+                ..Labels::plain()
             },
-            asks_for_key: false,
-            tagging: if is_answered {
-                tagging_of(target)
-            } else {
-                Tagging::Untagged
-            },
+            Asked::Nowhere | Asked::Known { .. } => Labels::plain(),
         }
     }
 
@@ -121,66 +89,29 @@ pub(crate) fn tag_alone(alloc: Global, tag: HeaderValue) -> Result<HeaderMap, Al
     with_field(HeaderMap::new(alloc), ETAG, tag)
 }
 
-impl Content {
-    fn value(self) -> HeaderValue
-        ensures { result ≡ plain_value (content_text self) }
-    {
-        match self {
-            Content::Text => HeaderValue::from_static("text/plain; charset=utf-8"),
-            Content::Json => HeaderValue::from_static("application/json"),
-            Content::Page => HeaderValue::from_static("text/html; charset=utf-8"),
-        }
-    }
-}
-
-impl Methods {
-    fn value(self) -> HeaderValue
-        ensures { result ≡ plain_value (methods_text self) }
-    {
-        match self {
-            Methods::Get => HeaderValue::from_static("GET"),
-            Methods::Post => HeaderValue::from_static("POST"),
-            Methods::PutOrDelete => HeaderValue::from_static("PUT, DELETE"),
-            Methods::PutOrPost => HeaderValue::from_static("PUT, POST"),
-        }
-    }
-}
-
-// What is answered there.
-fn content_of(target: &Option<Target<'_>>) -> Content
-    ensures { result ≡ content_at (option_map target_value target.now) }
+// What `Content-Type` says of a body.
+fn content_value(content: Content) -> HeaderValue
+    ensures { result ≡ plain_value (content_text content) }
 {
-    match target {
-        Some(Target::Report | Target::Status) => Content::Json,
-        _ => Content::Text,
+    match content {
+        Content::Text => HeaderValue::from_static("text/plain; charset=utf-8"),
+        Content::Json => HeaderValue::from_static("application/json"),
+        Content::Page => HeaderValue::from_static("text/html; charset=utf-8"),
     }
 }
 
-// Whether what is answered there has a tag.
-fn tagging_of(target: &Option<Target<'_>>) -> Tagging
-    ensures { result ≡ tagging_at (option_map target_value target.now) }
+// How `Allow` names methods.
+fn methods_value(methods: Methods) -> HeaderValue
+    ensures { result ≡ plain_value (methods_text methods) }
 {
-    match target {
-        Some(Target::Status) => Tagging::Tagged,
-        _ => Tagging::Untagged,
-    }
-}
-
-fn methods_at(target: &Target<'_>) -> Methods
-    ensures { result ≡ methods_of (target_value target.now) }
-{
-    match target {
-        Target::Points | Target::Report | Target::Status => Methods::Get,
-        Target::Point { name: _ } => Methods::PutOrDelete,
-        _ => Methods::Post,
-    }
+    HeaderValue::from_static(methods.text())
 }
 
 // What a body is. Out of memory is the only error here, and of all that follow.
 fn type_fields(alloc: Global, content: Content) -> Result<HeaderMap, AllocError>
     ensures { IfOk result (λ fields. fields ≡ type_fields content) }
 {
-    let fields = with_field(HeaderMap::new(alloc), CONTENT_TYPE, content.value())?;
+    let fields = with_field(HeaderMap::new(alloc), CONTENT_TYPE, content_value(content))?;
     let nosniff = HeaderValue::from_static("nosniff");
     with_field(fields, X_CONTENT_TYPE_OPTIONS, nosniff)
 }
@@ -212,7 +143,7 @@ fn with_methods(fields: HeaderMap, methods: Option<Methods>) -> Result<HeaderMap
 {
     match methods {
         None => Ok(fields),
-        Some(methods) => with_field(fields, ALLOW, methods.value()),
+        Some(methods) => with_field(fields, ALLOW, methods_value(methods)),
     }
 }
 

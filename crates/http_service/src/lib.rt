@@ -12,9 +12,12 @@
 //! A service with a key (`Access`) may be asked from other machines too: there the `Host` says
 //! nothing, and a request without the key is 401, whatever it is, before its body is read.
 //!
-//! A service that has an `Ending` is ended by `POST /stop`, by whoever else has that ending, and by a
-//! reply that shows that a node has forgotten what it did: then no client is let in any more, and
-//! those that are being served have two seconds. It answers `GET /` by the operator's page.
+//! What a request asks for is said by the table of requests (`http_routes`), once, and by that it is
+//! answered: 404, 405 and 413 before anything is asked, and else by the handler, with the row of its
+//! route.
+//!
+//! A service that has an `Ending` is ended by whoever has that ending, as a handler that is asked for
+//! the end: then no client is let in any more, and those that are being served have two seconds.
 #![tactic(auto)]
 
 mod access;
@@ -27,14 +30,14 @@ mod heads;
 mod labels;
 pub mod laws;
 mod permits;
+mod question;
 mod serving;
 mod tags;
 mod until_ended;
 
 pub use access::{Access, KeyFault};
-pub use ending::{Ended, Ending, Reason, Served};
+pub use ending::{Ended, Ending, LastReply, Reason, Served};
 pub use fault::ServeFault;
 pub use handler::Handler;
-pub use http_replies::HttpReply;
-pub use labels::{Content, Labels, Methods, Tagging};
+pub use http_routes::HttpReply;
 pub use serving::{serve_all, serve_until_ended};

@@ -15,7 +15,7 @@ use crate::connection::{Accepting, Clients, ConnectionFactory, ConnectionTask};
 use crate::ending::{Ending, Served};
 use crate::exchange::ConnectionService;
 use crate::fault::ServeFault;
-use crate::handler::{EndingHandler, Handler, PageHandler};
+use crate::handler::Handler;
 use crate::permits::{AllBack, Permits};
 use crate::until_ended::{LetIn, UntilEnded};
 use bytes::Bytes;
@@ -23,9 +23,10 @@ use futures::Future;
 use futures::executor::TaskSet;
 use futures::task::{Context, Poll};
 use http_body_util::Full;
+use http_routes::{RouteSet, Routes};
 use hyper::rt::TokioTimer;
 use hyper::server::conn::http1::{Builder, Connection};
-use std::alloc::{AllocGlobal, Global};
+use std::alloc::{AllocError, AllocGlobal, Global};
 use std::hash::RandomState;
 use std::io::ErrorKind;
 use std::random::RandomSource;
@@ -86,6 +87,8 @@ struct HttpConnections<H, R> {
     alloc: Global,
     rt: R,
     handler: Arc<H>,
+    routes: Arc<Routes>,
+    set: RouteSet,
     long: Permits,
     access: Access,
     port: u16,
@@ -98,7 +101,7 @@ where
     H: Handler,
     R: Wait + Clock + Copy,
 {
-    // `None` where the access can't be shared any more.
+    // `None` where the routes or the access can't be shared any more.
     fn connection(&self, socket: TcpStream) -> Option<HttpConnection<H, R>>
         ensures can_poll { IfSome result ⟦<HttpConnection<H, R> as Future>⟧.can_poll }
         ensures options { IfSome result (λ c. c.served.conn.options ≡ self.now.http.options) }
@@ -106,17 +109,21 @@ where
             (λ c. c.served.conn.link.core.config ≡ self.now.http.config) }
         ensures handler { IfSome result (λ c. IfSome c.served.conn.service.handler
             (λ h. arc_value h ≡ arc_value self.now.handler)) }
+        ensures routes { IfSome result (λ c. arc_value c.served.conn.service.routes
+            ≡ arc_value self.now.routes) }
+        ensures set { IfSome result (λ c. c.served.conn.service.set ≡ self.now.set) }
         ensures access { IfSome result (λ c. credentials_in c.served.conn.service.access
             ≡ credentials_in self.now.access) }
-        ensures page { IfSome result (λ c. c.served.conn.service.access.page
-            ≡ self.now.access.page) }
         ensures port { IfSome result (λ c. c.served.conn.service.port ≡ self.now.port) }
     {
+        let routes = Arc::try_clone(&self.routes).ok()?;
         let access = self.access.again()?;
         let service = ConnectionService {
             alloc: self.alloc,
             rt: self.rt,
             handler: Arc::try_clone(&self.handler).ok(),
+            routes,
+            set: self.set,
             long: self.long.again(),
             access,
             port: self.port,
@@ -170,9 +177,10 @@ where
     }
 }
 
-/// Serves so many connections beside each other, with one request each, which go to a handler, and
-/// answers how many, once each has ended. A connection that breaks, or that is ended for its time,
-/// counts as served. Where one can't be accepted, it is tried again after a rest.
+/// Serves so many connections beside each other, with one request each, and answers how many, once
+/// each has ended. A handler is asked for what the routes of `RouteSet::Cluster` have. A connection
+/// that breaks, or that is ended for its time, counts as served. Where one can't be accepted, it is
+/// tried again after a rest.
 pub fn serve_all<H, R>(
     rt: &R,
     alloc: Global,
@@ -188,13 +196,14 @@ where
     ensures ok { IfOk result (λ served. served ≡ requests) }
     ensures err { IfErr result (λ f. (f ≡ AcceptFailed) ⊎ (f ≡ OutOfMemory)) }
 {
-    let (factory, permits) = opened(rt, alloc, runtime, handler, access, &listener)?;
+    let set = RouteSet::Cluster;
+    let (factory, permits) = opened(rt, alloc, runtime, handler, set, access, &listener)?;
     let clients = admit(rt, runtime, listener, factory, permits, requests)?;
     Ok(clients.count())
 }
 
-/// Serves connections as `serve_all` does, until the service is ended. `POST /stop` ends it too, and
-/// `GET /` is answered by the operator's page: neither is asked of the handler.
+/// Serves connections as `serve_all` does, until the service is ended. The handler is asked for what
+/// the routes of `RouteSet::Program` have: the operator's page and the end of the service too.
 pub fn serve_until_ended<'e, H, R>(
     rt: &R,
     alloc: Global,
@@ -211,10 +220,8 @@ where
     ensures ok { IfOk result (IsServedTo requests (arc_value ending.now).reason.id) }
     ensures err { IfErr result (λ f. (f ≡ AcceptFailed) ⊎ (f ≡ OutOfMemory)) }
 {
-    let handler = PageHandler::new(alloc, handler)?;
-    let handler = EndingHandler::new(alloc, handler, ending)?;
-    let access = access.with_page();
-    let (factory, permits) = opened(rt, alloc, runtime, handler, access, &listener)?;
+    let set = RouteSet::Program;
+    let (factory, permits) = opened(rt, alloc, runtime, handler, set, access, &listener)?;
     let let_in = admit_until(rt, runtime, listener, factory, permits, requests, ending)?;
     served_by(ending, let_in)
 }
@@ -241,13 +248,14 @@ fn served_by(ending: &Ending, let_in: LetIn) -> Result<Served<'_>, ServeFault>
     }
 }
 
-// Makes connections whose requests go to a handler that is served by a listener, and the permits of as
-// many as are served at once.
+// Makes connections whose requests go to a handler that is served by a listener, with these routes, and
+// the permits of as many as are served at once.
 fn opened<H, R>(
     rt: &R,
     alloc: Global,
     runtime: &Runtime,
     handler: Arc<H>,
+    set: RouteSet,
     access: Access,
     listener: &TcpListener,
 ) -> Result<(HttpConnections<H, R>, Permits), ServeFault>
@@ -257,6 +265,7 @@ where
     ensures none_waits { IfOk result (λ r. r.1.waiting ≡ None) }
     ensures count { IfOk result (λ r. r.1.count ≡ AT_ONCE) }
     ensures handler { IfOk result (λ r. arc_value r.0.handler ≡ arc_value handler) }
+    ensures set { IfOk result (λ r. r.0.set ≡ set) }
     ensures access { IfOk result (λ r. r.0.access ≡ access) }
     ensures err { IfErr result (λ f. (f ≡ AcceptFailed) ⊎ (f ≡ OutOfMemory)) }
 {
@@ -264,16 +273,17 @@ where
     let Ok(address) = listener.local_addr() else {
         return Err(ServeFault::AcceptFailed);
     };
-    let factory = connections_to(rt, alloc, runtime, handler, access, address.port())?;
+    let factory = connections_to(rt, alloc, runtime, handler, set, access, address.port())?;
     Ok((factory, permits))
 }
 
-// Makes connections whose requests go to a handler, which is served so at this port.
+// Makes connections whose requests go to a handler, which is served so at this port, with these routes.
 fn connections_to<H, R>(
     rt: &R,
     alloc: Global,
     runtime: &Runtime,
     handler: Arc<H>,
+    set: RouteSet,
     access: Access,
     port: u16,
 ) -> Result<HttpConnections<H, R>, ServeFault>
@@ -284,6 +294,7 @@ where
     ensures head { IfOk result (λ f. IsSomeAnd f.http.options.header_read_timeout
         (λ head. as_nanos head ≡ HEAD_SECONDS * 1_000_000_000)) }
     ensures handler { IfOk result (λ f. arc_value f.handler ≡ arc_value handler) }
+    ensures set { IfOk result (λ f. f.set ≡ set) }
     ensures long { IfOk result (λ f. f.long.count ≡ LONG_AT_ONCE) }
     ensures access { IfOk result (λ f. f.access ≡ access) }
     ensures port { IfOk result (λ f. f.port ≡ port) }
@@ -292,17 +303,25 @@ where
 {
     let http = builder_of(rt, alloc, runtime)?;
     let timers = runtime.handle().time().clone()?;
+    let routes = shared_routes(alloc)?;
     let long = Permits::new(alloc, LONG_AT_ONCE)?;
     Ok(HttpConnections {
         alloc,
         rt: *rt,
         handler,
+        routes,
+        set,
         long,
         access,
         port,
         http,
         timers,
     })
+}
+
+// The routes, for all connections. The only error is out of memory.
+fn shared_routes(alloc: Global) -> Result<Arc<Routes>, AllocError> {
+    Ok(Arc::new(alloc, Routes::new(alloc)?)?)
 }
 
 // Makes a connection over HTTP of a socket: with one request, whose head has its time.

@@ -6,9 +6,9 @@ ghost use Rattle.http_service.specs.Tags.{is_between_tags, is_had, lists, quoted
 ghost use Rattle.http_service.specs.Tags.{tag_of};
 
 use crate::heads::is_joined;
-use crate::labels::Tagging;
 use hex::encode;
 use http::header::{HeaderMap, HeaderValue, IF_NONE_MATCH};
+use http_routes::Tagging;
 use sha2::{Digest, Sha256};
 use std::alloc::{AllocError, Global};
 

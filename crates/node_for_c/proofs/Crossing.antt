@@ -2,7 +2,7 @@
 use denote.Param.Send.{IsSend, sendable, recorded_send, struct_send}
 use denote.Struct.Declared.{shape}
 use Rattle.std.proofs.Crossing.{crosses}
-use Rattle.http_paths.proofs.Crossing.{routes_send}
+use Rattle.http_routes.proofs.Crossing.{routes_send}
 use Rattle.http_routes.proofs.room.KeptRoom.TheSendSync as room
 use Rattle.node_calls.proofs.fault.NodeFault.TheSendSync as fault
 use Rattle.node_steps.proofs.generator.Generator.TheSendSync as generator

@@ -16,4 +16,4 @@ pub use handle::{Handle, Node, Opaque};
 pub use numbers::{NO_STAMP, Stamped, Wide, narrow};
 pub use points::Points;
 pub use recording::DIFFERS;
-pub use registry::{CLOSED, OPEN, Registry, Said, number_of};
+pub use registry::{Answer, CLOSED, OPEN, Registry, Said, number_of};

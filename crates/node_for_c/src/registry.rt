@@ -25,12 +25,10 @@ use crate::act::{Act, UNSET, act_of, into_text, text_of};
 use crate::numbers::NO_STAMP;
 use crate::points::Points;
 use actions::{Name, NameFault};
-use http_paths::Routes;
-use http_routes::{KeptRoom, RoomReply, answer_in};
+use http_routes::{HttpReply, KeptRoom, RoomReply, RouteSet, Routes, answer_in};
 use node_core::{Config, Generator, NodeCore, NodeFault};
 use node_sharing::{set_spread, share, spread};
 use sharing::Memory;
-use spread_routes::{answer_spread, spread_name};
 use stamp_register::Stamp;
 use std::alloc::{AllocError, Global};
 
@@ -48,6 +46,14 @@ pub struct Registry {
     pub points: Points,
     pub fault: Option<NodeFault>,
     pub memory: Memory,
+}
+
+/// What a request was answered, but for the body.
+#[derive(Clone, Copy, Debug, PartialEq, Eq)]
+pub struct Answer {
+    pub status: u16,
+    /// The fault by which the node rejects the request, if it does.
+    pub fault: Option<NodeFault>,
 }
 
 /// What is to be fetched: these bytes, the text of the task that the pass at this place of the trace
@@ -468,36 +474,44 @@ impl Registry {
         }
     }
 
-    /// Answers a request of HTTP, and tells its status. The body of the reply is to be fetched.
-    pub fn answer(&mut self, alloc: Global, method: &[u8], path: &[u8], body: &[u8]) -> (u32, u16)
-        ensures ok { result.0 ≡ 0
-            → IsAnswered method.now path.now body.now result.1 self.old self.new }
-        ensures memory { result.0 ≡ 0
-            → MayLackMemory method.now path.now body.now result.1 self.old self.new }
-        ensures refused { result.0 ≢ 0 → IsNoRequest method.now path.now result.0 }
-        ensures same { result.0 ≢ 0 → self.new ≡ self.old }
-        ensures none { result.0 ≢ 0 → result.1 ≡ 0 }
+    /// Answers a request of HTTP. The body of the reply is to be fetched. The only error is that the
+    /// method or the path isn't UTF-8.
+    pub fn answer(
+        &mut self,
+        alloc: Global,
+        method: &[u8],
+        path: &[u8],
+        body: &[u8],
+    ) -> Result<Answer, u32>
+        ensures ok { IfOk result
+            (λ answer. IsAnswered method.now path.now body.now answer self.old self.new) }
+        ensures memory { IfOk result
+            (λ answer. MayLackMemory method.now path.now body.now answer self.old self.new) }
+        ensures refused { IfErr result (IsNoRequest method.now path.now) }
+        ensures same { OnErr result (self.new ≡ self.old) }
     {
         let Ok(method) = str::from_utf8(method) else {
-            return (NOT_TEXT, 0);
+            return Err(NOT_TEXT);
         };
         let Ok(path) = str::from_utf8(path) else {
-            return (NOT_TEXT, 0);
+            return Err(NOT_TEXT);
         };
-        if let Some(name) = spread_name(path) {
-            let reply = answer_spread(&mut self.core, alloc, method, name, body);
-            self.said = Said::Bytes(reply.body);
-            return (0, reply.status);
-        }
+        let asked = self.routes.asked(RouteSet::Library, method, path);
         let (core, room) = (&mut self.core, &mut self.room);
-        match answer_in(core, alloc, &self.routes, room, method, path, body) {
-            RoomReply::Kept(status) => {
+        match answer_in(core, alloc, room, &asked, body) {
+            RoomReply::Kept { status, fault } => {
                 self.said = Said::InRoom;
-                (0, status)
+                Ok(Answer { status, fault })
             }
-            RoomReply::Apart(reply) => {
-                self.said = Said::Bytes(reply.body);
-                (0, reply.status)
+            RoomReply::Apart(
+                HttpReply {
+                    status,
+                    body,
+                    fault,
+                },
+            ) => {
+                self.said = Said::Bytes(body);
+                Ok(Answer { status, fault })
             }
         }
     }

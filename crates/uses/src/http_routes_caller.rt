@@ -2,8 +2,7 @@
 
 ghost use Rattle.std.specs.Prelude.{◌≡◌};
 
-use http_paths::Routes;
-use http_routes::{HttpReply, answer};
+use http_routes::{HttpReply, Routes, answer};
 use node_core::NodeCore;
 use std::alloc::Global;
 

@@ -1,10 +1,10 @@
 //! A caller of `http_service`.
 
 ghost use Rattle.std.specs.Prelude.{◌≡◌, IfOk, codes};
-ghost use Rattle.http_replies.specs.Replies.{http_value, text_reply, IsReply};
-ghost use Rattle.http_service.specs.Labels.{plain_labels};
+ghost use Rattle.http_routes.specs.Replies.{http_value, text_reply, IsReply};
 
-use http_service::{Access, Handler, HttpReply, Labels, ServeFault, serve_all};
+use http_routes::{Request, Row};
+use http_service::{Access, Handler, HttpReply, ServeFault, serve_all};
 use std::alloc::{AllocGlobal, Global};
 use std::random::RandomSource;
 use std::sync::{Arc, Wait};
@@ -26,31 +26,21 @@ impl Greeter {
 }
 
 impl Handler for Greeter {
-    ghost answers = { λ _ method path body. IsReply (text_reply 200 (codes "hello")) };
+    ghost answers = { λ _ request row body. IsReply (text_reply 200 (codes "hello")) };
 
     fn reply<R: Wait + Clock>(
         &self,
         _rt: &R,
         alloc: Global,
-        _method: &str,
-        _path: &str,
+        _request: &Request<'_>,
+        _row: Row,
         _body: Vec<u8>,
     ) -> HttpReply {
         self.greet(alloc)
     }
-
-    fn reply_too_long(&self, alloc: Global, _method: &str, _path: &str) -> HttpReply {
-        self.greet(alloc)
-    }
-
-    ghost labelled = { λ path status. plain_labels };
-
-    fn labels(&self, _path: &str, _status: u16) -> Labels {
-        Labels::plain()
-    }
 }
 
-/// Greets so many clients, whatever they ask for.
+/// Greets so many clients, whatever they ask for on a route.
 pub fn greeted<R>(
     rt: &R,
     runtime: &mut Runtime,

@@ -1,18 +1,18 @@
 //! A node that forgets its calls with each reply.
 
 ghost use Rattle.std.specs.Prelude.{◌≡◌, ◌≤◌, ◌+◌, false};
-ghost use Rattle.http_replies.specs.Replies.{http_value};
+ghost use Rattle.http_routes.specs.Asked.{node_request_value};
+ghost use Rattle.http_routes.specs.Replies.{http_value};
 ghost use Rattle.node_registry.specs.Seats.{HasSameCalls};
 ghost use Rattle.http_serve.specs.Forgotten.{HandsOut};
-ghost use Rattle.http_serve.specs.Spreads.{AnswersRequest, AnswersRequestFrom, node_labels};
+ghost use Rattle.http_serve.specs.Served.{AnswersRequest, AnswersRequestFrom};
 
 use super::NodeReader;
-use http_routes::HttpReply;
-use http_service::{Handler, Labels};
+use crate::node_answers::NodeAnswers;
+use http_routes::{HttpReply, NodeRequest};
 use node_registry::{Label, Piece, Registry, Seat};
 use std::alloc::{AllocError, Global};
 use std::sync::{Arc, Mutex, Wait};
-use std::time::Clock;
 
 /// The calls that a node forgot last: so many, from that one on.
 #[derive(Drop)]
@@ -68,17 +68,16 @@ impl<L: Label> ForgottenSeat<L> {
         rt: &R,
         alloc: Global,
         reader: &NodeReader<L>,
-        method: &str,
-        path: &str,
+        request: &NodeRequest<'_>,
         body: Vec<u8>,
     ) -> HttpReply
         requires { L.keeps ≡ false }
         ensures answers { AnswersRequestFrom L.config L.seed L.keeps L.parts self.old.seat
-            self.new.seat method.now path.now body.items (http_value result) }
+            self.new.seat (node_request_value request.now) body.items (http_value result) }
         ensures forgets { HandsOut L.config L.seed L.keeps L.parts self.new.seat
             self.new.last.from self.new.last.count }
     {
-        let reply = reader.answer_from(rt, alloc, &mut self.seat, method, path, body);
+        let reply = reader.answer_from(rt, alloc, &mut self.seat, request, body);
         self.last = forget(rt, alloc, &reader.registry, &mut self.seat);
         reply
     }
@@ -100,37 +99,26 @@ impl<L: Label> ForgettingHandler<L> {
         alloc: Global,
         registry: &Arc<Registry<L>>,
         seat: Seat<L>,
-    ) -> Result<Arc<ForgettingHandler<L>>, AllocError>
+    ) -> Result<ForgettingHandler<L>, AllocError>
         requires { L.keeps ≡ false }
     {
-        let reader = NodeReader::new(alloc, registry)?;
+        let reader = NodeReader::new(registry)?;
         let seat = Mutex::new(ForgottenSeat::new(rt, alloc, registry, seat));
-        Ok(Arc::new(alloc, ForgettingHandler { reader, seat })?)
+        Ok(ForgettingHandler { reader, seat })
     }
 }
 
-impl<L: Label> Handler for ForgettingHandler<L> {
+impl<L: Label> NodeAnswers for ForgettingHandler<L> {
     ghost answers = { λ _. AnswersRequest L.config L.seed L.keeps L.parts };
 
-    fn reply<R: Wait + Clock>(
+    fn reply<R: Wait>(
         &self,
         rt: &R,
         alloc: Global,
-        method: &str,
-        path: &str,
+        request: &NodeRequest<'_>,
         body: Vec<u8>,
     ) -> HttpReply {
         let mut seat = self.seat.lock(rt);
-        seat.answer(rt, alloc, &self.reader, method, path, body)
-    }
-
-    fn reply_too_long(&self, alloc: Global, method: &str, path: &str) -> HttpReply {
-        self.reader.answer_too_long(alloc, method, path)
-    }
-
-    ghost labelled = { node_labels };
-
-    fn labels(&self, path: &str, status: u16) -> Labels {
-        self.reader.labels(path, status)
+        seat.answer(rt, alloc, &self.reader, request, body)
     }
 }

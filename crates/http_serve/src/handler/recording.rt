@@ -1,31 +1,27 @@
 //! A node whose part is kept: a request is answered once what it did is written.
 
-ghost use Rattle.std.specs.Prelude.{◌≡◌, ◌⊎◌, ℕ, IfOk, IfErr};
+ghost use Rattle.std.specs.Prelude.{◌≡◌, ◌⊎◌, ℕ, IfOk, IfErr, option_map};
 ghost use Rattle.node_calls.specs.Asks.{reply_value};
-ghost use Rattle.node_calls.specs.Told.{ask_told};
-ghost use Rattle.http_replies.specs.Replies.{http_value};
+ghost use Rattle.node_calls.specs.Told.{ask_ref_told, ask_told};
+ghost use Rattle.http_routes.specs.Replies.{http_value};
 ghost use Rattle.http_routes.specs.Replies.{acceptance_value};
-ghost use Rattle.http_routes.specs.Requests.{wanted};
 ghost use Rattle.http_routes.specs.Requests as requests;
 ghost use Rattle.part_keeper.specs.Outs.{out_of, seat_of, written_of};
-ghost use Rattle.spread_routes.specs.Wanted.{spread_wanted};
 ghost use Rattle.http_serve.specs.Recorded.{AnswersRecording, IsNotMade, IsNotRecorded, IsServedRecording};
-ghost use Rattle.http_serve.specs.Recorded.{IsServedWriting, IsSpreadRecording, IsSpreadWriting, TellsFault};
-ghost use Rattle.http_serve.specs.Spreads.{node_labels};
+ghost use Rattle.http_serve.specs.Recorded.{IsServedWriting, IsSpreadWriting, TellsFault};
+ghost use Rattle.http_serve.specs.Spreads.{spread_of};
 ghost use Rattle.http_serve.specs.declared.handler.recording.TheConstants.{NOT_RECORDED, RECORDING_FAILED};
 
 use super::NodeReader;
 use super::spreading::SpreadRequest;
-use http_routes::{HttpReply, ReplyRoom, Wanted, route_owned};
-use http_service::{Handler, Labels};
-use node_core::{Ask, Reply};
+use crate::node_answers::NodeAnswers;
+use http_routes::{HttpReply, NodeRequest, ReplyRoom, WantedRef};
+use node_core::{Ask, AskRef, Reply};
 use node_registry::{Label, Registry};
 use part_keeper::{CallFault, Recorder, Recording};
-use spread_routes::spread_name;
 use std::alloc::{AllocError, Global};
 use std::io::Write;
 use std::sync::{Arc, Wait};
-use std::time::Clock;
 
 /// What a call is answered that was made and couldn't be recorded.
 const NOT_RECORDED: &str =
@@ -91,18 +87,29 @@ pub struct RecordingHandler<L: Label> {
 impl<L: Label> RecordingHandler<L> {
     /// The only error is out of memory.
     pub fn new(
-        alloc: Global,
         registry: &Arc<Registry<L>>,
         recorder: &Arc<Recorder<L>>,
-    ) -> Result<Arc<RecordingHandler<L>>, AllocError> {
-        let reader = NodeReader::new(alloc, registry)?;
-        let recorder = Arc::try_clone(recorder)?;
-        Ok(Arc::new(alloc, RecordingHandler { reader, recorder })?)
+    ) -> Result<RecordingHandler<L>, AllocError> {
+        Ok(RecordingHandler {
+            reader: NodeReader::new(registry)?,
+            recorder: Arc::try_clone(recorder)?,
+        })
+    }
+
+    // The reply to a call that lies in a request.
+    fn call_of<R: Wait>(&self, rt: &R, alloc: Global, ask: AskRef<'_>) -> HttpReply
+        ensures { IsServedRecording L.config L.seed L.keeps L.parts
+            (requests.call (ask_ref_told ask.entry)) (http_value result) }
+    {
+        match ask.copied(alloc) {
+            Ok(ask) => self.call(rt, alloc, ask),
+            Err(_) => HttpReply::no_memory(alloc),
+        }
     }
 
     // The reply to a call, from the recorder's recording.
     fn call<R: Wait>(&self, rt: &R, alloc: Global, ask: Ask) -> HttpReply
-        ensures { IsServedRecording L.config L.seed (requests.call (ask_told ask))
+        ensures { IsServedRecording L.config L.seed L.keeps L.parts (requests.call (ask_told ask))
             (http_value result) }
     {
         let mut recording = self.recorder.lock(rt);
@@ -130,41 +137,13 @@ impl<L: Label> RecordingHandler<L> {
         told_of_call(alloc, room, made)
     }
 
-    // The reply to a request of the routes.
-    fn route<R: Wait>(
-        &self,
-        rt: &R,
-        alloc: Global,
-        method: &str,
-        path: &str,
-        body: Vec<u8>,
-    ) -> HttpReply
-        ensures { IsServedRecording L.config L.seed (wanted method.now path.now body.items)
-            (http_value result) }
-    {
-        match route_owned(alloc, &self.reader.routes, method, path, body) {
-            Wanted::Do(ask) => self.call(rt, alloc, ask),
-            Wanted::List => self.recorded(rt, alloc, self.reader.list(rt, alloc)),
-            Wanted::Report => self.recorded(rt, alloc, self.reader.report(rt, alloc)),
-            Wanted::Status => self.recorded(rt, alloc, self.reader.status(rt, alloc)),
-            Wanted::Answered(reply) => reply,
-        }
-    }
-
     // The reply to a request to spread the rights of a point, from the recorder's recording.
-    fn spread<R: Wait>(
-        &self,
-        rt: &R,
-        alloc: Global,
-        method: &str,
-        name: &str,
-        body: &[u8],
-    ) -> HttpReply
-        ensures { IsSpreadRecording L.config L.seed L.keeps L.parts name.now
-            (spread_wanted method.now body.now) (http_value result) }
+    fn spread<R: Wait>(&self, rt: &R, alloc: Global, name: &str, text: Option<&str>) -> HttpReply
+        ensures { IsServedRecording L.config L.seed L.keeps L.parts
+            (spread_of name.now (option_map (λ t. t.now) text.entry)) (http_value result) }
     {
         let mut recording = self.recorder.lock(rt);
-        self.spread_from(rt, alloc, &mut recording, method, name, body)
+        self.spread_from(rt, alloc, &mut recording, name, text)
     }
 
     // The reply to a request to spread the rights of a point, from a recording: the lines of its calls
@@ -174,16 +153,15 @@ impl<L: Label> RecordingHandler<L> {
         rt: &R,
         alloc: Global,
         recording: &mut Recording<L, W>,
-        method: &str,
         name: &str,
-        body: &[u8],
+        text: Option<&str>,
     ) -> HttpReply
         ensures { IsSpreadWriting W.contents (out_of recording.old) (out_of recording.new)
             (written_of recording.old) (written_of recording.new) (seat_of recording.old)
-            (seat_of recording.new) L.config L.seed L.keeps L.parts name.now
-            (spread_wanted method.now body.now) (http_value result) }
+            (seat_of recording.new) L.config L.seed L.keeps L.parts
+            (spread_of name.now (option_map (λ t. t.now) text.entry)) (http_value result) }
     {
-        let mut request = SpreadRequest { method, name, body };
+        let mut request = SpreadRequest { name, text };
         let made = recording.make_batch(rt, alloc, &self.reader.registry, &mut request);
         told_of_batch(alloc, made)
     }
@@ -197,30 +175,27 @@ impl<L: Label> RecordingHandler<L> {
     }
 }
 
-impl<L: Label> Handler for RecordingHandler<L> {
+impl<L: Label> NodeAnswers for RecordingHandler<L> {
     ghost answers = { λ _. AnswersRecording L.config L.seed L.keeps L.parts };
 
-    fn reply<R: Wait + Clock>(
+    fn reply<R: Wait>(
         &self,
         rt: &R,
         alloc: Global,
-        method: &str,
-        path: &str,
+        request: &NodeRequest<'_>,
         body: Vec<u8>,
     ) -> HttpReply {
-        match spread_name(path) {
-            Some(name) => self.spread(rt, alloc, method, name, body.as_slice()),
-            None => self.route(rt, alloc, method, path, body),
+        if let NodeRequest::Deliver = request {
+            return self.call(rt, alloc, Ask::Deliver { message: body });
         }
-    }
-
-    fn reply_too_long(&self, alloc: Global, method: &str, path: &str) -> HttpReply {
-        self.reader.answer_too_long(alloc, method, path)
-    }
-
-    ghost labelled = { node_labels };
-
-    fn labels(&self, path: &str, status: u16) -> Labels {
-        self.reader.labels(path, status)
+        match WantedRef::of(request, body.as_slice()) {
+            WantedRef::Do(ask) => self.call_of(rt, alloc, ask),
+            WantedRef::List => self.recorded(rt, alloc, self.reader.list(rt, alloc)),
+            WantedRef::Report => self.recorded(rt, alloc, self.reader.report(rt, alloc)),
+            WantedRef::Status => self.recorded(rt, alloc, self.reader.status(rt, alloc)),
+            WantedRef::SetSpread { name, text } => self.spread(rt, alloc, name, Some(text)),
+            WantedRef::Spread { name } => self.spread(rt, alloc, name, None),
+            WantedRef::Refused(fault) => HttpReply::refusal(alloc, fault),
+        }
     }
 }

@@ -2,8 +2,7 @@
 
 use super::fleet::new_node;
 use super::*;
-use http_paths::Routes;
-use http_routes::{HttpReply, Wanted, answer, reply_of, route};
+use http_routes::{HttpReply, Routes, Wanted, answer, reply_of, route};
 
 /// A method, a path and a body; and the status and the text of the answer.
 type Row = (&'static str, &'static str, &'static [u8], u16, &'static str);

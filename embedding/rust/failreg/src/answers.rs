@@ -64,8 +64,8 @@ impl Registry {
     /// A request has the same effects as the registry's call: threads see new configurations,
     /// pauses end, and a registry that records has recorded an accepted call before this returns. A
     /// body has at most 64 MiB, or the response is 413. While calls wait for messages from other
-    /// nodes ([`Builder::hear_first`](crate::Builder::hear_first)), the response is 503 to all but
-    /// `GET`, `POST /gossip` and `POST /hello`.
+    /// nodes ([`Builder::hear_first`](crate::Builder::hear_first)), the response is 503 to requests
+    /// that change the node.
     ///
     /// # Errors
     /// [`Closed`](crate::ErrorKind::Closed) or [`Disabled`](crate::ErrorKind::Disabled); if the

@@ -1,7 +1,7 @@
 //! Messages from the other nodes of a cluster.
 
 use crate::error::{Error, ErrorKind};
-use crate::heads::MAX_BODY;
+use crate::heads::{MAX_BODY, methods_at};
 use std::time::{SystemTime, UNIX_EPOCH};
 
 /// The codes of rejected messages, in byte order.
@@ -163,7 +163,7 @@ pub fn not_heard(node: usize) -> Error {
 /// The kinds of requests, as far as other nodes matter.
 #[derive(Clone, Copy, Debug, PartialEq, Eq)]
 pub enum Kind {
-    /// It may change the node, and isn't a message.
+    /// It may change the node, and isn't a message: the path has the method.
     Call,
     /// A message.
     Delivery,
@@ -173,6 +173,11 @@ pub enum Kind {
     Status,
     /// Another read, or nothing valid.
     Other,
+}
+
+// Returns whether the node has this path with this method.
+fn has_method(path: &str, method: &str) -> bool {
+    methods_at(path).is_some_and(|methods| methods.split(", ").any(|it| it == method))
 }
 
 impl Kind {
@@ -185,7 +190,8 @@ impl Kind {
             ("POST", "/gossip") => Kind::Delivery,
             (_, "/hello") => Kind::Hello,
             ("GET", _) | (_, "/gossip") => Kind::Other,
-            _ => Kind::Call,
+            _ if has_method(path, method) => Kind::Call,
+            _ => Kind::Other,
         }
     }
 }
@@ -247,15 +253,18 @@ mod tests {
     }
 
     #[test]
-    fn a_request_is_a_call_unless_it_reads_or_delivers() {
+    fn a_request_is_a_call_if_its_path_has_the_method_and_it_changes_the_node() {
         for (method, path, kind) in [
             ("PUT", "/fail/a", Kind::Call),
-            ("POST", "/nowhere", Kind::Call),
+            ("DELETE", "/fail/a", Kind::Call),
+            ("PUT", "/spread/a", Kind::Call),
+            ("POST", "/fail/a", Kind::Other),
+            ("POST", "/nowhere", Kind::Other),
             ("POST", "/gossip", Kind::Delivery),
             ("PUT", "/gossip", Kind::Other),
             ("GET", "/gossip", Kind::Other),
             ("GET", "/status", Kind::Status),
-            ("POST", "/status", Kind::Call),
+            ("POST", "/status", Kind::Other),
             ("GET", "/report", Kind::Other),
             ("POST", "/hello", Kind::Hello),
             ("GET", "/hello", Kind::Hello),

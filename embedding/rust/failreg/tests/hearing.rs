@@ -60,12 +60,16 @@ fn nothing_is_done_before_each_other_node_was_heard() {
     // Reads and messages work.
     assert_eq!(node.list().unwrap(), "p=2*return->off");
     node.emit(2).unwrap();
-    for (method, path) in [("PUT", "/fail/p"), ("POST", "/load"), ("POST", "/nowhere")] {
+    for (method, path) in [("PUT", "/fail/p"), ("POST", "/load"), ("PUT", "/spread/p")] {
         let reply = node.answer(method, path, b"off").unwrap();
         assert_eq!(
             (reply.status, reply.body.as_slice()),
             (503, WAITING.as_bytes())
         );
+    }
+    // What can't succeed later doesn't wait.
+    for (method, path, status) in [("POST", "/nowhere", 404), ("DELETE", "/load", 405)] {
+        assert_eq!(node.answer(method, path, b"off").unwrap().status, status);
     }
     for (path, status) in [("/fail", 200), ("/report", 200), ("/nowhere", 404)] {
         assert_eq!(node.answer("GET", path, b"").unwrap().status, status);

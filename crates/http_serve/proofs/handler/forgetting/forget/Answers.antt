@@ -1,4 +1,4 @@
-use Rattle.std.proofs.Common.{ap, refl, sym, subst, ◌≤◌, ◌+◌, length}
+use Rattle.std.proofs.Common.{ap, refl, sym}
 use Rattle.node_registry.specs.Seats.{HasSameCalls, SeatState}
 use Rattle.node_registry.proofs.SameCalls.{cell_as}
 use Rattle.http_serve.proofs.Forgotten.{before_end}

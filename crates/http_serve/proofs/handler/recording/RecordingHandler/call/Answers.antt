@@ -1,4 +1,4 @@
-use Rattle.http_replies.specs.Replies.{http_value}
+use Rattle.http_routes.specs.Replies.{http_value}
 use Rattle.node_calls.specs.Told.{ask_told}
 use Rattle.http_serve.proofs.Recorded.{as_recording}
 use Rattle.http_serve.proofs.handler.recording.RecordingHandler.call.Goals as goal

@@ -1,4 +1,4 @@
-use Rattle.http_replies.specs.Replies.{http_value}
+use Rattle.http_routes.specs.Replies.{http_value}
 use Rattle.part_keeper.specs.Outs.{out_of, seat_of, written_of}
 use Rattle.http_serve.proofs.Recorded.{written_by}
 use Rattle.http_serve.proofs.handler.recording.RecordingHandler.call_from.Goals as goal

@@ -1,10 +1,14 @@
-use Rattle.http_replies.specs.Replies.{http_value}
-use Rattle.spread_routes.specs.Wanted.{spread_wanted}
-use Rattle.http_serve.proofs.Spreads.{answer_goes}
+use Rattle.std.proofs.Common.{Some, None}
+use Rattle.http_routes.specs.Replies.{http_value}
+use Rattle.http_serve.proofs.Spreads.{spread_goes}
 use Rattle.http_serve.proofs.handler.spreading.SpreadRequestBatchHttpReply.make.Goals as goal
 
-pub returns-clause-goes_on : goal.returns-clause-goes_on
-returns-clause-goes_on c =
-    let asked = c.args.self.now in
-    answer_goes c.args.node.now asked.name.now (spread_wanted asked.method.now asked.body.now) c.answer_spread.new.core
-    (http_value c.answer_spread.result) c.answer_spread.ensures
+pub returns-in-Some-clause-goes_on : goal.returns-in-Some-clause-goes_on
+returns-in-Some-clause-goes_on c =
+    spread_goes c.args.node.now c.args.self.now.name.now (Some c.in-Some.text.now) c.set_spread.new.core
+    (http_value c.set_spread.result) c.set_spread.ensures
+
+pub returns-in-None-clause-goes_on : goal.returns-in-None-clause-goes_on
+returns-in-None-clause-goes_on c =
+    spread_goes c.args.node.now c.args.self.now.name.now None c.spread.new.core (http_value c.spread.result)
+    c.spread.ensures

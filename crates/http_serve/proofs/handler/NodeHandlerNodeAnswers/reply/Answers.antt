@@ -1,0 +1,11 @@
+use Rattle.http_routes.specs.Asked.{node_request_value}
+use Rattle.http_routes.specs.Replies.{http_value}
+use Rattle.http_routes.specs.Requests.{wanted_of}
+use Rattle.http_serve.proofs.Calls.{served}
+use Rattle.http_serve.proofs.handler.NodeHandlerNodeAnswers.reply.Goals as goal
+
+pub returns : goal.returns
+returns g c =
+    served g.L.Label.config g.L.Label.seed g.L.Label.keeps g.L.Ledger.parts _ _
+    (wanted_of (node_request_value c.args.request.now) c.args.body.items) (http_value c.answer_from.result)
+    c.answer_from.ensures
