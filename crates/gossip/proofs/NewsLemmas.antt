@@ -88,8 +88,8 @@ looks_nobody config seed since says seat now report = record {
   tos = [];
   missed = [];
   looked = nobody;
-  adds = adds_none _ _ _ _ _ _ _ refl refl refl refl refl refl refl;
-  moves = moves_nothing refl refl refl refl;
+  adds = adds_none _ _ _ _ _ _ _ refl refl refl refl refl refl refl refl;
+  moves = moves_nothing refl refl refl refl refl refl;
   tried = omega arith;
   few = omega arith;
   counted = omega arith;
@@ -104,8 +104,8 @@ looks_away {config = config} {seed = seed} {since = since} {says = says} p after
   tos = [];
   missed = [];
   looked = subst (λ q. AreLooked config seed since says (p ∷ []) (q ∷ []) [] []) (sym is) (left_alone seen due nobody);
-  adds = adds_none _ _ _ _ _ _ _ refl refl refl refl refl refl refl;
-  moves = moves_nothing refl refl refl refl;
+  adds = adds_none _ _ _ _ _ _ _ refl refl refl refl refl refl refl refl;
+  moves = moves_nothing refl refl refl refl refl refl;
   tried = omega arith;
   few = omega arith;
   counted = omega arith;
@@ -120,8 +120,8 @@ looks_unreached {config = config} {seed = seed} {since = since} {says = says} p 
   tos = [];
   missed = [];
   looked = subst (λ q. AreLooked config seed since says (p ∷ []) (q ∷ []) [] []) (sym is) (not_reached seen due away nobody);
-  adds = adds_none _ _ _ _ _ _ _ refl refl refl refl refl refl refl;
-  moves = moves_nothing same refl refl refl;
+  adds = adds_none _ _ _ _ _ _ _ refl refl refl refl refl refl refl refl;
+  moves = moves_nothing same refl refl refl refl refl;
   tried = omega arith;
   few = omega arith;
   counted = omega arith;
@@ -403,7 +403,8 @@ news_round empty p adds tried moves = record {
   asks = part_of_all (adds_as (adds_then p.adds adds) (append-nil (map bare_emit p.tos))) empty.receipts;
   tried = omega (arith, p.tried, tried);
   counted = omega (arith, p.counted, moves.lost_more, moves.refused_more);
-  carries = carries_of (moves_as (moves_then p.moves moves) (append-nil p.tos)) empty.receipts empty.lost empty.refused;
+  carries = carries_of (moves_as (moves_then p.moves moves) (append-nil p.tos)) empty.receipts empty.lost empty.refused
+      empty.failed empty.rejected;
 }
 
 pub told_by_looks : {config : Config} {seed : List ℕ} {since : ℕ} {says : ℕ → Bool → Type 0} {seat_was between seat_now : SeatState}
@@ -413,7 +414,7 @@ pub told_by_looks : {config : Config} {seed : List ℕ} {since : ℕ} {says : �
     Adds config seed between seat_now middle new [] →
     IsTold config seed seat_was seat_now new
 told_by_looks empty p adds = told_of (adds_then p.adds adds) empty.receipts empty.emitted empty.delivered
-    empty.refused empty.noted
+    empty.refused empty.noted empty.rejected
 
 -- memory was refused at a peer
 pub news_broken : {config : Config} {seed : List ℕ} {since : ℕ} {says : ℕ → Bool → Type 0} {seat_was seat_now : SeatState}
@@ -436,7 +437,7 @@ news_broken empty p = record {
   asks = part_of_all p.adds empty.receipts;
   few_left = p.stops.3;
   begins = p.stops.2;
-  carries = carries_of p.stops.4 empty.receipts empty.lost empty.refused;
+  carries = carries_of p.stops.4 empty.receipts empty.lost empty.refused empty.failed empty.rejected;
 }
 
 -- or while what came was taken in
@@ -464,5 +465,5 @@ news_unheard {ps = ps} {qs = qs} empty p adds stops =
       asks = part_of_all (adds_as (adds_then p.adds adds) (sym (map-append bare_emit p.tos []))) empty.receipts;
       few_left = all.3;
       begins = all.2;
-      carries = carries_of all.4 empty.receipts empty.lost empty.refused;
+      carries = carries_of all.4 empty.receipts empty.lost empty.refused empty.failed empty.rejected;
     }

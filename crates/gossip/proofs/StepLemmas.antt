@@ -4,6 +4,7 @@ use Rattle.std.specs.List.{filter, flat_map, range_with_len}
 use Rattle.std.proofs.lemmas.List.{map-append, append-nil}
 use Rattle.std.proofs.lemmas.List.Elements.{filter-append}
 use Rattle.std.proofs.lemmas.List.Sums.{sum_by-append}
+use Rattle.std.proofs.lemmas.Grind.{flat_map-append}
 use Rattle.node_steps.specs.declared.config.Config.{Config}
 use Rattle.node_calls.specs.declared.receipt.Receipt.{Receipt}
 use Rattle.message_format.specs.declared.fault.WireFault.{WireFault}
@@ -17,7 +18,7 @@ use Rattle.node_registry.proofs.SeatReceipts.{after_both, given_on}
 use Rattle.gossip.specs.declared.report.GossipReport.{GossipReport}
 use Rattle.gossip.specs.Parts.{IsPartOf}
 use Rattle.gossip.specs.Reports.{IsTold, asked_in, asks_in, is_delivery, is_emit, own_asks_in, own_refused_in}
-use Rattle.gossip.specs.Refused.{is_counted, refused_of}
+use Rattle.gossip.specs.Refused.{is_counted, refused_of, rejected_of, rejection_in}
 use Rattle.gossip.specs.Steps.{Adds}
 use Rattle.gossip.specs.Parts as parts
 use Rattle.gossip.proofs.PartLemmas.{nothing_of, joined_parts, part_of_more}
@@ -47,12 +48,16 @@ own_refused_both config xs ys =
     ∙ filter-append (λ ask. not (is_delivery ask)) (map (λ r. ask_value_first config.nodes r.0) xs)
     (map (λ r. ask_value_first config.nodes r.0) ys)
 
+rejected_both : (xs ys : List Refusal) → rejected_of (xs ++ ys) ≡ rejected_of xs ++ rejected_of ys
+rejected_both xs ys = flat_map-append (λ (r : Refusal). rejection_in r.0 r.1) xs ys
+
 -- no call
 pub adds_none : (config : Config) (seed : List ℕ) (was now : SeatState) (old new : GossipReport) (wanted : List Asked)
     → now ≡ was → new.receipts.items ≡ old.receipts.items → new.emitted ≡ old.emitted → new.delivered ≡ old.delivered →
     new.ended ≡ old.ended → new.refused ≡ old.refused → new.noted ≡ old.noted
+    → new.rejected.items ≡ old.rejected.items
     → Adds config seed was now old new wanted
-adds_none config seed was now old new wanted counted receipts emitted delivered ended refused noted = record {
+adds_none config seed was now old new wanted counted receipts emitted delivered ended refused noted rejected = record {
   more = [];
   receipts = receipts ∙ sym (append-nil old.receipts.items);
   calls = let same = ap (λ (s : SeatState). s.calls) counted in omega (arith, same);
@@ -64,6 +69,7 @@ adds_none config seed was now old new wanted counted receipts emitted delivered 
   noted = [];
   refusals = noted ∙ sym (append-nil old.noted);
   refused = omega (arith, refused);
+  rejected = rejected ∙ sym (append-nil old.rejected.items);
   refused_part = nothing_of wanted;
   ended = ended;
 }
@@ -74,9 +80,11 @@ pub adds_refused : (config : Config) (seed : List ℕ) (was now : SeatState) (ol
     → now ≡ was → new.receipts.items ≡ old.receipts.items → new.emitted ≡ old.emitted → new.delivered ≡ old.delivered →
     new.ended ≡ old.ended
     → new.refused ≡ old.refused + cond (is_counted fault) 1 0 → new.noted ≡ old.noted ++ (ask, fault) ∷ []
+    → new.rejected.items ≡ old.rejected.items ++ rejection_in ask fault
     → IsPartOf (filter (λ a. not (is_delivery a)) (ask_value_first config.nodes ask ∷ [])) wanted
     → Adds config seed was now old new wanted
-adds_refused config seed was now old new ask fault wanted counted receipts emitted delivered ended refused noted part =
+adds_refused config seed was now old new ask fault wanted counted receipts emitted delivered ended refused noted rejected
+    part =
     record {
       more = [];
       receipts = receipts ∙ sym (append-nil old.receipts.items);
@@ -89,6 +97,7 @@ adds_refused config seed was now old new ask fault wanted counted receipts emitt
       noted = (ask, fault) ∷ [];
       refusals = noted;
       refused = omega (arith, refused, count_one {X = Refusal} (λ r. is_counted r.1) (ask, fault));
+      rejected = rejected ∙ ap (λ l. old.rejected.items ++ l) (sym (append-nil (rejection_in ask fault)));
       refused_part = part;
       ended = ended;
     }
@@ -102,9 +111,10 @@ pub adds_one : (config : Config) (seed : List ℕ) (was now : SeatState) (old ne
     → new.delivered ≡ old.delivered + cond (is_delivery ask) 1 0
     → IsPartOf (filter (λ a. not (is_delivery a)) (ask ∷ [])) wanted
     → new.ended ≡ old.ended → new.refused ≡ old.refused → new.noted ≡ old.noted
+    → new.rejected.items ≡ old.rejected.items
     → Adds config seed was now old new wanted
 adds_one config seed was now old new r ask wanted asks given since counted receipts emitted delivered part ended refused
-    noted =
+    noted rejected =
     record {
       more = r ∷ [];
       receipts = receipts;
@@ -119,6 +129,7 @@ adds_one config seed was now old new r ask wanted asks given since counted recei
       noted = [];
       refusals = noted ∙ sym (append-nil old.noted);
       refused = omega (arith, refused);
+      rejected = rejected ∙ sym (append-nil old.rejected.items);
       refused_part = nothing_of wanted;
       ended = ended;
     }
@@ -130,13 +141,13 @@ pub adds_emit : (config : Config) (seed : List ℕ) (was now : SeatState) (to : 
     → IsGiven config seed r → ComesNext was r.index → now ≡ called was r.index
     → between ≡ old.receipts.items → new.receipts.items ≡ between ++ r ∷ []
     → new.emitted ≡ old.emitted + 1 → new.delivered ≡ old.delivered → new.ended ≡ old.ended
-    → new.refused ≡ old.refused → new.noted ≡ old.noted
+    → new.refused ≡ old.refused → new.noted ≡ old.noted → new.rejected.items ≡ old.rejected.items
     → Adds config seed was now old new (bare_emit to ∷ [])
 adds_emit config seed was now to old new between r asked given since counted kept more emitted delivered ended refused
-    noted =
+    noted rejected =
     adds_one config seed was now old new r (bare_emit to) (bare_emit to ∷ []) asked
     given since counted (more ∙ ap (λ l. l ++ r ∷ []) kept) emitted (omega arith) (parts.kept parts.none) ended refused
-    noted
+    noted rejected
 
 pub adds_delivery : (config : Config) (seed : List ℕ) (was now : SeatState) (read : Result Message WireFault)
     (old new : GossipReport) (r : Receipt)
@@ -144,11 +155,12 @@ pub adds_delivery : (config : Config) (seed : List ℕ) (was now : SeatState) (r
     → IsGiven config seed r → ComesNext was r.index → now ≡ called was r.index
     → new.receipts.items ≡ old.receipts.items ++ r ∷ []
     → new.emitted ≡ old.emitted → new.delivered ≡ old.delivered + 1 → new.ended ≡ old.ended
-    → new.refused ≡ old.refused → new.noted ≡ old.noted
+    → new.refused ≡ old.refused → new.noted ≡ old.noted → new.rejected.items ≡ old.rejected.items
     → Adds config seed was now old new []
-adds_delivery config seed was now read old new r asked given since counted more emitted delivered ended refused noted =
+adds_delivery config seed was now read old new r asked given since counted more emitted delivered ended refused noted
+    rejected =
     adds_one config seed was now old new r (Deliver read) [] asked
-    given since counted more (omega arith) delivered parts.none ended refused noted
+    given since counted more (omega arith) delivered parts.none ended refused noted rejected
 
 pub adds_shift : (config : Config) (seed : List ℕ) (was now : SeatState) (name : List ℕ) (term to amount : ℕ)
     (old new : GossipReport) (between : List Receipt) (r : Receipt)
@@ -156,13 +168,13 @@ pub adds_shift : (config : Config) (seed : List ℕ) (was now : SeatState) (name
     → IsGiven config seed r → ComesNext was r.index → now ≡ called was r.index
     → between ≡ old.receipts.items → new.receipts.items ≡ between ++ r ∷ []
     → new.emitted ≡ old.emitted → new.delivered ≡ old.delivered → new.ended ≡ old.ended
-    → new.refused ≡ old.refused → new.noted ≡ old.noted
+    → new.refused ≡ old.refused → new.noted ≡ old.noted → new.rejected.items ≡ old.rejected.items
     → Adds config seed was now old new (Shift name term to amount ∷ [])
 adds_shift config seed was now name term to amount old new between r asked given since counted kept more emitted
-    delivered ended refused noted =
+    delivered ended refused noted rejected =
     adds_one config seed was now old new r (Shift name term to amount) (Shift name term to amount ∷ []) asked
     given since counted (more ∙ ap (λ l. l ++ r ∷ []) kept) (omega arith) (omega arith) (parts.kept parts.none) ended
-    refused noted
+    refused noted rejected
 
 -- calls, and then more
 pub adds_then : {config : Config} {seed : List ℕ} {was between now : SeatState} {old middle new : GossipReport}
@@ -189,6 +201,9 @@ adds_then {config = config} {seed = seed} {was = was} {between = between} {now =
         q.refused,
         count_both {X = Refusal} (λ r. is_counted r.1) p.noted q.noted,
       );
+      rejected = q.rejected ∙ ap (λ l. l ++ rejected_of q.noted) p.rejected
+          ∙ append_assoc old.rejected.items (rejected_of p.noted) (rejected_of q.noted)
+          ∙ ap (λ l. old.rejected.items ++ l) (sym (rejected_both p.noted q.noted));
       refused_part = subst (λ l. IsPartOf l (first ++ second)) (sym (own_refused_both config p.noted q.noted))
           (joined_parts p.refused_part q.refused_part);
       ended = q.ended ∙ p.ended;
@@ -209,6 +224,7 @@ adds_of_more p rest = record {
   noted = p.noted;
   refusals = p.refusals;
   refused = p.refused;
+  rejected = p.rejected;
   refused_part = part_of_more p.refused_part rest;
   ended = p.ended;
 }
@@ -221,9 +237,10 @@ adds_as {config = config} {seed = seed} {was = was} {now = now} {old = old} {new
 -- a report of all calls
 pub told_of : {config : Config} {seed : List ℕ} {was now : SeatState} {old new : GossipReport} {wanted : List Asked}
     → Adds config seed was now old new wanted → old.receipts.items ≡ [] → old.emitted ≡ 0 → old.delivered ≡ 0 →
-    old.refused ≡ 0 → old.noted ≡ []
+    old.refused ≡ 0 → old.noted ≡ [] → old.rejected.items ≡ []
     → IsTold config seed was now new
-told_of {config = config} {seed = seed} {was = was} {now = now} {new = new} p empty none none_too unrefused unnoted =
+told_of {config = config} {seed = seed} {was = was} {now = now} {new = new} p empty none none_too unrefused unnoted
+    unrejected =
     let e : new.receipts.items ≡ p.more = p.receipts ∙ ap (λ l. l ++ p.more) empty in
     record {
       calls = p.calls ∙ ap (λ l. was.calls + length l) (sym e);
@@ -232,6 +249,8 @@ told_of {config = config} {seed = seed} {was = was} {now = now} {new = new} p em
       emitted = omega (arith, p.emitted, none, ap (λ l. count_by is_emit (asks_in config l)) e);
       delivered = omega (arith, p.delivered, none_too, ap (λ l. count_by is_delivery (asks_in config l)) e);
       refused = omega (arith, p.refused, unrefused, ap refused_of (p.refusals ∙ ap (λ l. l ++ p.noted) unnoted));
+      rejected = p.rejected ∙ ap (λ l. l ++ rejected_of p.noted) unrejected
+          ∙ sym (ap rejected_of (p.refusals ∙ ap (λ l. l ++ p.noted) unnoted));
     }
 
 pub part_of_all : {config : Config} {seed : List ℕ} {was now : SeatState} {old new : GossipReport} {wanted : List Asked}

@@ -1,5 +1,5 @@
 -- What becomes of messages in rounds.
-use Rattle.std.specs.Prelude.{◌≡◌, ◌≢◌, ◌≤◌, ℕ, ◌+◌, List, [], ◌∷◌, ◌++◌, length}
+use Rattle.std.specs.Prelude.{◌≡◌, ◌≢◌, ◌≤◌, ℕ, ◌+◌, List, [], ◌∷◌, ◌++◌, length, map}
 use Rattle.std.specs.List.{flat_map, range_with_len}
 use Rattle.node_steps.specs.declared.config.Config.{Config}
 use Rattle.node_calls.specs.declared.fault.NodeFault.{NodeFault}
@@ -10,9 +10,12 @@ use Rattle.node_calls.specs.Asks.{bare_emit, message_read}
 use Rattle.node_calls.specs.Told as tells
 use Rattle.node_calls.specs.Told.{AskTold, ReplyTold, ask_told, reply_told}
 use Rattle.node_registry.specs.Receipts.{IsRefused}
+use Rattle.gossip.specs.declared.failures.Failed.{Failed}
+use Rattle.gossip.specs.declared.failures.Rejected.{Rejected}
 use Rattle.gossip.specs.declared.report.GossipReport.{GossipReport}
 use Rattle.gossip.specs.declared.report.Ended.TheVariants.{Done}
 use Rattle.gossip.specs.Reports.{others_below}
+use Rattle.gossip.specs.Senders.{sender_of}
 use Rattle.gossip.specs.Traffic.{Traffic}
 
 -- the bytes of an emit, and those of a delivery
@@ -65,9 +68,11 @@ pub data AreHeard (config : Config) (seed : List ℕ) : List (List ℕ) → List
 
 -- Between two states of a wire's traffic messages to these nodes were made, of which some were sent, so many lost, and
 -- some refused. Messages were taken and delivered or refused, and then these, which were left. The receipts are of the
--- calls, and so many calls were refused
+-- calls, what failed is told of those lost, and what was rejected of those refused, in order; and so many calls were
+-- refused
 pub record Carries (config : Config) (seed : List ℕ) (was now : Traffic) (receipts : List Receipt)
-    (lost refused : ℕ) (tos : List ℕ) (left : List (List ℕ)) : Type 0 where
+    (failed : List Failed) (rejected : List Rejected) (lost refused : ℕ) (tos : List ℕ) (left : List (List ℕ)) :
+    Type 0 where
   pub sent : List (ℕ × List ℕ)
   pub lost_messages : List (ℕ × List ℕ)
   pub refused_nodes : List ℕ
@@ -79,6 +84,8 @@ pub record Carries (config : Config) (seed : List ℕ) (was now : Traffic) (rece
   pub delivered : AreHeard config seed heard (deliveries_in receipts) refused_messages
   pub lost_all : lost ≡ length lost_messages
   pub refused_all : refused ≡ length refused_nodes + length refused_messages
+  pub failed_all : map (λ (f : Failed). f.peer) failed ≡ map (λ (message : ℕ × List ℕ). message.0) lost_messages
+  pub rejected_all : map (λ (r : Rejected). r.sender) rejected ≡ map sender_of refused_messages
 
 -- the nodes that rounds tell
 abbrev pub others_in_rounds : Config → ℕ → List ℕ
@@ -93,4 +100,4 @@ abbrev pub Carried : Config → List ℕ → Traffic → Traffic → ℕ → Gos
 Carried config seed was now rounds r =
     (tos : List ℕ) × (left : List (List ℕ)) × Begins tos (others_in_rounds config rounds) × (length left ≤ 1)
     × (r.ended ≡ Done → (tos ≡ others_in_rounds config rounds) × (left ≡ []))
-    × Carries config seed was now r.receipts.items r.lost r.refused tos left
+    × Carries config seed was now r.receipts.items r.failed.items r.rejected.items r.lost r.refused tos left

@@ -6,6 +6,7 @@ pub mod Mailboxes
 pub mod Parts
 pub mod Refused
 pub mod Reports
+pub mod Senders
 pub mod Spreads
 pub mod Steps
 pub mod Traffic

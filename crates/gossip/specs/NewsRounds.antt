@@ -21,6 +21,8 @@ pub record IsEmpty (r : GossipReport) : Type 0 where
   pub lost : r.lost ≡ 0
   pub refused : r.refused ≡ 0
   pub noted : r.noted ≡ []
+  pub failed : r.failed.items ≡ []
+  pub rejected : r.rejected.items ≡ []
 
 -- these peers were looked at, and what was told them is in the report
 pub record Looks (config : Config) (seed : List ℕ) (since : ℕ) (says : ℕ → Bool → Type 0) (seat_was seat_now : SeatState)
@@ -66,7 +68,7 @@ pub record IsNewsRound (config : Config) (seed : List ℕ) (since : ℕ) (says :
   pub asks : IsPartOf (own_asks_in config r.receipts.items) (map bare_emit tos)
   pub tried : length tos ≤ tried_of r
   pub counted : length missed ≤ r.lost + r.refused
-  pub carries : Carries config seed was now r.receipts.items r.lost r.refused tos []
+  pub carries : Carries config seed was now r.receipts.items r.failed.items r.rejected.items r.lost r.refused tos []
 
 -- one that memory ended: the same of the first peers, and perhaps of the next one, if it was to be told. One message
 -- may be
@@ -90,4 +92,4 @@ pub record IsNewsBroken (config : Config) (seed : List ℕ) (since : ℕ) (says 
   pub asks : IsPartOf (own_asks_in config r.receipts.items) (map bare_emit (tos ++ next))
   pub few_left : length left ≤ 1
   pub begins : Begins made (tos ++ next)
-  pub carries : Carries config seed was now r.receipts.items r.lost r.refused made left
+  pub carries : Carries config seed was now r.receipts.items r.failed.items r.rejected.items r.lost r.refused made left

@@ -9,7 +9,7 @@ use Rattle.node_registry.specs.Receipts.{AreGivenSince, seat_after}
 use Rattle.node_registry.specs.Refusals.{Refusal}
 use Rattle.node_registry.specs.Seats.{SeatState}
 use Rattle.gossip.specs.declared.report.GossipReport.{GossipReport}
-use Rattle.gossip.specs.Refused.{refused_of}
+use Rattle.gossip.specs.Refused.{refused_of, rejected_of}
 
 -- what receipts say was asked, of an emit only to whom
 abbrev pub asked_in : Config → Receipt → Asked
@@ -38,7 +38,8 @@ abbrev pub own_refused_in : Config → List Refusal → List Asked
 own_refused_in config refusals = filter (λ ask. not (is_delivery ask)) (refused_asks_in config refusals)
 
 -- the report has a receipt of each call that a seat made, which the node gave it, in the order of the calls; it counts
--- the messages that they made and took in, and the calls that the registry noted as refused
+-- the messages that they made and took in, and the calls that the registry noted as refused, of which it tells the
+-- messages that were rejected
 pub record IsTold (config : Config) (seed : List ℕ) (was now : SeatState) (r : GossipReport) : Type 0 where
   pub calls : now.calls ≡ was.calls + length r.receipts.items
   pub counted : now ≡ seat_after was r.receipts.items
@@ -46,6 +47,7 @@ pub record IsTold (config : Config) (seed : List ℕ) (was now : SeatState) (r :
   pub emitted : r.emitted ≡ count_by is_emit (asks_in config r.receipts.items)
   pub delivered : r.delivered ≡ count_by is_delivery (asks_in config r.receipts.items)
   pub refused : r.refused ≡ refused_of r.noted
+  pub rejected : r.rejected.items ≡ rejected_of r.noted
 
 -- messages that were made or refused, and all calls
 abbrev pub tried_of : GossipReport → ℕ

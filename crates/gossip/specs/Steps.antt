@@ -6,11 +6,13 @@ use Rattle.node_calls.specs.Asks.{Asked}
 use Rattle.node_registry.specs.Receipts.{AreGivenSince, seat_after}
 use Rattle.node_registry.specs.Refusals.{Refusal}
 use Rattle.node_registry.specs.Seats.{SeatState}
+use Rattle.gossip.specs.declared.failures.Failed.{Failed}
+use Rattle.gossip.specs.declared.failures.Rejected.{Rejected}
 use Rattle.gossip.specs.declared.report.GossipReport.{GossipReport}
 use Rattle.gossip.specs.Carried.{Begins, Carries}
 use Rattle.gossip.specs.Parts.{IsPartOf}
 use Rattle.gossip.specs.Reports.{asks_in, is_delivery, is_emit, own_asks_in, own_refused_in}
-use Rattle.gossip.specs.Refused.{refused_of}
+use Rattle.gossip.specs.Refused.{refused_of, rejected_of}
 use Rattle.gossip.specs.Traffic.{Traffic}
 
 -- calls of a seat add their receipts, of which those that took in no message ask some of these, in order; and so do the
@@ -28,6 +30,7 @@ pub record Adds (config : Config) (seed : List ℕ) (was now : SeatState) (old n
   pub noted : List Refusal
   pub refusals : new.noted ≡ old.noted ++ noted
   pub refused : new.refused ≡ old.refused + refused_of noted
+  pub rejected : new.rejected.items ≡ old.rejected.items ++ rejected_of noted
   pub refused_part : IsPartOf (own_refused_in config noted) wanted
   pub ended : new.ended ≡ old.ended
 
@@ -36,12 +39,16 @@ pub record Adds (config : Config) (seed : List ℕ) (was now : SeatState) (old n
 pub record Moves (config : Config) (seed : List ℕ) (was now : Traffic) (old new : GossipReport) (tos : List ℕ)
     (left : List (List ℕ)) : Type 0 where
   pub more : List Receipt
+  pub failed : List Failed
+  pub rejected : List Rejected
   pub lost : ℕ
   pub refused : ℕ
   pub receipts : new.receipts.items ≡ old.receipts.items ++ more
+  pub failed_more : new.failed.items ≡ old.failed.items ++ failed
+  pub rejected_more : new.rejected.items ≡ old.rejected.items ++ rejected
   pub lost_more : new.lost ≡ old.lost + lost
   pub refused_more : new.refused ≡ old.refused + refused
-  pub carries : Carries config seed was now more lost refused tos left
+  pub carries : Carries config seed was now more failed rejected lost refused tos left
 
 -- memory was refused after the first of these nodes
 abbrev pub Stops : Config → List ℕ → Traffic → Traffic → GossipReport → GossipReport → List ℕ → Type 0

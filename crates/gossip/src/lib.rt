@@ -2,6 +2,7 @@
 #![tactic(auto)]
 
 mod caller;
+mod failures;
 mod mail;
 mod mailbox;
 mod news;
@@ -11,6 +12,7 @@ mod rounds;
 mod spreading;
 mod wire;
 
+pub use failures::{Failed, Rejected, sender_of};
 pub use history::Log;
 pub use mail::MailWire;
 pub use mailbox::MOST_MESSAGES;

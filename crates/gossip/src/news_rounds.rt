@@ -20,7 +20,8 @@ use std::sync::Wait;
 /// sent. Its pace says when it is looked for again. Where nothing is due, and where the peer isn't
 /// reached, no message is made, and the node isn't called.
 /// Then the round takes in what the wire brings, at most 64 messages. A message that couldn't be sent
-/// is counted, and so is a call that the node refuses. Out of memory, also on the wire, ends the round.
+/// is counted and told, and so is one that the node rejects; any other call that it refuses is counted.
+/// Out of memory, also on the wire, ends the round.
 pub fn gossip_news<L: Label, W: Reach, R: Wait>(
     rt: &R,
     alloc: Global,

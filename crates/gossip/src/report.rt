@@ -1,9 +1,11 @@
 //! What gossip came to.
 
-ghost use Rattle.std.specs.Prelude.{◌≡◌, ◌+◌, ◌<◌, ◌≤◌, ◌^◌, ◌++◌, ◌∷◌, [], ◌↔◌, cond, vec_len};
+ghost use Rattle.std.specs.Prelude.{◌≡◌, ◌+◌, ◌<◌, ◌≤◌, ◌^◌, ◌++◌, ◌∷◌, [], ◌↔◌, cond, length, vec_len};
 ghost use Rattle.std.specs.Prelude.{vec_capacity, OnOk, OnErr, IsErr};
-ghost use Rattle.gossip.specs.Refused.{is_counted};
+ghost use Rattle.gossip.specs.Refused.{failure_of, is_counted, rejection_of};
 
+use crate::failures::{Failed, Rejected};
+use crate::wire::WireError;
 use node_core::{NodeFault, Receipt};
 use node_registry::Refusals;
 use std::alloc::{AllocError, Global};
@@ -30,6 +32,11 @@ pub struct GossipReport {
     pub refused: u64,
     /// The receipts of the accepted calls, in the order of the calls.
     pub receipts: Vec<Receipt>,
+    /// The messages that couldn't be sent, in the order of the calls that made them: to whom, and why.
+    pub failed: Vec<Failed>,
+    /// The messages taken from the wire that the node rejected, otherwise than as out of memory, in
+    /// the order in which they were taken: of whom, and why.
+    pub rejected: Vec<Rejected>,
     /// What was asked in each call that the node refused, and why, in the order of the calls: contracts
     /// alone read it, and it takes no memory.
     pub noted: Refusals,
@@ -47,6 +54,8 @@ impl GossipReport {
         ensures ended { result.ended ≡ Ended.Done }
         ensures lost { result.lost ≡ 0 }
         ensures noted { result.noted ≡ [] }
+        ensures failed { result.failed.items ≡ [] }
+        ensures rejected { result.rejected.items ≡ [] }
     {
         GossipReport {
             emitted: 0,
@@ -54,26 +63,32 @@ impl GossipReport {
             delivered: 0,
             refused: 0,
             receipts: Vec::new(alloc),
+            failed: Vec::new(alloc),
+            rejected: Vec::new(alloc),
             noted: Refusals::new(),
             ended: Ended::Done,
         }
     }
 
-    /// Records a message that was made, and perhaps couldn't be sent.
-    pub(crate) fn record_emit(&mut self, receipt: Receipt, is_lost: bool)
+    /// Records a message that was made for a node, by what sending it came to.
+    pub(crate) fn record_emit(&mut self, receipt: Receipt, to: u8, sent: Result<(), WireError>)
         requires room { vec_len self.old.receipts < vec_capacity self.old.receipts }
+        requires room_to_fail { vec_len self.old.failed < vec_capacity self.old.failed }
         requires few { self.old.emitted + 1 < 2 ^ 64 }
         ensures receipts { self.new.receipts.items ≡ self.old.receipts.items ++ receipt ∷ [] }
         ensures emitted { self.new.emitted ≡ self.old.emitted + 1 }
-        ensures lost { self.new.lost ≡ self.old.lost + cond is_lost 1 0 }
+        ensures lost { self.new.lost ≡ self.old.lost + length (failure_of to sent) }
+        ensures failed { self.new.failed.items ≡ self.old.failed.items ++ failure_of to sent }
+        ensures rejected { self.new.rejected.items ≡ self.old.rejected.items }
         ensures delivered { self.new.delivered ≡ self.old.delivered }
         ensures refused { self.new.refused ≡ self.old.refused }
         ensures noted { self.new.noted ≡ self.old.noted }
         ensures ended { self.new.ended ≡ self.old.ended }
     {
         self.emitted += 1;
-        if is_lost {
+        if let Err(why) = sent {
             self.lost += 1;
+            self.failed.push_reserved(Failed { peer: to, why });
         }
         self.receipts.push_reserved(receipt);
     }
@@ -86,6 +101,8 @@ impl GossipReport {
         ensures emitted { self.new.emitted ≡ self.old.emitted }
         ensures lost { self.new.lost ≡ self.old.lost }
         ensures delivered { self.new.delivered ≡ self.old.delivered + 1 }
+        ensures failed { self.new.failed.items ≡ self.old.failed.items }
+        ensures rejected { self.new.rejected.items ≡ self.old.rejected.items }
         ensures refused { self.new.refused ≡ self.old.refused }
         ensures noted { self.new.noted ≡ self.old.noted }
         ensures ended { self.new.ended ≡ self.old.ended }
@@ -105,6 +122,10 @@ impl GossipReport {
         ensures ok { OnOk result (self.new.refused ≡ self.old.refused + 1) }
         ensures err { OnErr result (self.new.refused ≡ self.old.refused) }
         ensures counted { self.new.refused ≡ self.old.refused + cond (is_counted fault) 1 0 }
+        ensures failed { self.new.failed.items ≡ self.old.failed.items }
+        ensures rejected { self.new.rejected.items ≡ self.old.rejected.items }
+        ensures room { (vec_len self.new.rejected ≡ vec_len self.old.rejected)
+            × (vec_capacity self.new.rejected ≡ vec_capacity self.old.rejected) }
         ensures noted { self.new.noted ≡ self.old.noted }
         ensures ended { self.new.ended ≡ self.old.ended }
     {
@@ -112,6 +133,30 @@ impl GossipReport {
             return Err(AllocError);
         }
         self.refused += 1;
+        Ok(())
+    }
+
+    /// Counts a message of this sender that the node rejected, and records it; the only error is out of
+    /// memory, which is neither counted nor recorded.
+    pub(crate) fn reject(&mut self, sender: Option<u8>, fault: NodeFault) -> Result<(), AllocError>
+        requires few { self.old.refused + 1 < 2 ^ 64 }
+        requires room { vec_len self.old.rejected < vec_capacity self.old.rejected }
+        ensures memory { IsErr result ↔ (fault ≡ NodeFault.OutOfMemory) }
+        ensures receipts { self.new.receipts.items ≡ self.old.receipts.items }
+        ensures emitted { self.new.emitted ≡ self.old.emitted }
+        ensures lost { self.new.lost ≡ self.old.lost }
+        ensures delivered { self.new.delivered ≡ self.old.delivered }
+        ensures ok { OnOk result (self.new.refused ≡ self.old.refused + 1) }
+        ensures err { OnErr result (self.new.refused ≡ self.old.refused) }
+        ensures counted { self.new.refused ≡ self.old.refused + cond (is_counted fault) 1 0 }
+        ensures failed { self.new.failed.items ≡ self.old.failed.items }
+        ensures rejected { self.new.rejected.items
+            ≡ self.old.rejected.items ++ rejection_of sender fault }
+        ensures noted { self.new.noted ≡ self.old.noted }
+        ensures ended { self.new.ended ≡ self.old.ended }
+    {
+        self.refuse(fault)?;
+        self.rejected.push_reserved(Rejected { sender, fault });
         Ok(())
     }
 }

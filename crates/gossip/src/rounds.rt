@@ -13,6 +13,7 @@ ghost use Rattle.gossip.specs.Steps.{Adds, Moves, Stops};
 ghost use Rattle.gossip.specs.Traffic.{Traffic, sends, takes};
 
 use crate::caller::Caller;
+use crate::failures::sender_of;
 use crate::report::{Ended, GossipReport};
 use crate::wire::{Wire, WireError};
 use node_core::{Ask, Config, Receipt, Reply};
@@ -27,7 +28,8 @@ pub const MOST_TAKEN: u8 = 64;
 /// the order of their numbers, and sends it; then it takes in what the wire brings, at most 64
 /// messages. A message that couldn't be sent is counted, and the round goes on; where none could be
 /// taken, the round ends; a call that the node refuses is counted. Out of memory, also on the wire,
-/// ends the rounds. Room for a receipt is made before its call.
+/// ends the rounds. Room for a receipt is made before its call, and so is room to tell that a message
+/// isn't sent, or is rejected. So each such message is in the report.
 pub fn gossip_rounds<L: Label, W: Wire, R: Wait>(
     rt: &R,
     alloc: Global,
@@ -168,10 +170,11 @@ pub(crate) fn tell_one<L: Label, W: Wire, R: Wait>(
         (W.traffic wire.new) report.old report.new (to ∷ [])) }
 {
     report.receipts.reserve(1)?;
+    report.failed.reserve(1)?;
     match caller.enter(seat, Ask::Emit { to }, &mut report.noted) {
         Ok(receipt) => {
             let sent = send(caller, wire, to, &receipt);
-            report.record_emit(receipt, sent.is_err());
+            report.record_emit(receipt, to, sent);
             match sent {
                 Err(WireError::OutOfMemory) => Err(AllocError),
                 Err(_) => Ok(false),
@@ -228,8 +231,8 @@ pub(crate) fn hear<L: Label, W: Wire, R: Wait>(
     Ok(())
 }
 
-// Takes in a message, and says whether there was one. Room for its receipt is made before it is taken
-// from the wire.
+// Takes in a message, and says whether there was one. Room for its receipt, and for it if it is
+// rejected, is made before it is taken from the wire.
 fn hear_one<L: Label, W: Wire, R: Wait>(
     caller: &Caller<'_, L, R>,
     seat: &mut Seat<L>,
@@ -246,6 +249,7 @@ fn hear_one<L: Label, W: Wire, R: Wait>(
         (W.traffic wire.new) report.old report.new []) }
 {
     report.receipts.reserve(1)?;
+    report.rejected.reserve(1)?;
     match wire.take(caller.rt, caller.alloc) {
         Ok(Some(message)) => {
             take_in(caller, seat, message, report)?;
@@ -257,7 +261,7 @@ fn hear_one<L: Label, W: Wire, R: Wait>(
     }
 }
 
-// Takes in a message for whose receipt there is room.
+// Takes in a message for whose receipt there is room, and for it if it is rejected.
 fn take_in<L: Label, R: Wait>(
     caller: &Caller<'_, L, R>,
     seat: &mut Seat<L>,
@@ -265,6 +269,7 @@ fn take_in<L: Label, R: Wait>(
     report: &mut GossipReport,
 ) -> Result<(), AllocError>
     requires room { vec_len report.old.receipts < vec_capacity report.old.receipts }
+    requires room_to_reject { vec_len report.old.rejected < vec_capacity report.old.rejected }
     requires few { calls_of report.old < 2 ^ 64 - 1 }
     ensures adds { Adds L.config L.seed seat.old seat.new report.old report.new [] }
     ensures tried { tried_of report.old ≤ tried_of report.new }
@@ -274,11 +279,12 @@ fn take_in<L: Label, R: Wait>(
     ensures stops { (was : Traffic) → OnErr result (Stops L.config L.seed
         was (takes (Some message.items) was) report.old report.new []) }
 {
+    let sender = sender_of(&message);
     match caller.enter(seat, Ask::Deliver { message }, &mut report.noted) {
         Ok(receipt) => {
             report.record_delivery(receipt);
             Ok(())
         }
-        Err(fault) => report.refuse(fault),
+        Err(fault) => report.reject(sender, fault),
     }
 }

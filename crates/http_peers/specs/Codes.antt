@@ -1,5 +1,5 @@
 -- Why messages are refused, by the fault that a reply carries.
-use Rattle.std.specs.Prelude.{ℕ, ◌==◌, List, [], ◌∷◌, codes, if◌then◌else◌, Option, Some, None}
+use Rattle.std.specs.Prelude.{ℕ, ◌==◌, List, [], ◌∷◌, codes, if◌then◌else◌, Option, Some, None, Result, Ok, Err}
 use Rattle.node_calls.specs.declared.fault.NodeFault.{NodeFault}
 use Rattle.node_calls.specs.declared.fault.NodeFault.TheVariants as faults
 use Rattle.http_routes.specs.Replies.{ReplyValue}
@@ -54,6 +54,11 @@ refused_by None = Untold
 abbrev pub unaccepted : Option NodeFault → Outcome
 unaccepted (Some fault) = refused_by (code_of fault)
 unaccepted None = Untold
+
+-- what a message came to by what the node returned
+abbrev pub outcome_by : {X : Type 0} → Result X NodeFault → Outcome
+outcome_by (Ok done) = Accepted
+outcome_by (Err fault) = unaccepted (Some fault)
 
 -- what a message came to by the reply to it
 abbrev pub outcome_of : ReplyValue → Outcome

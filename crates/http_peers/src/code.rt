@@ -2,7 +2,7 @@
 
 ghost use Rattle.std.specs.Prelude.{◌≡◌};
 ghost use Rattle.http_routes.specs.Replies.{http_value};
-ghost use Rattle.http_peers.specs.Codes.{code_name, code_of, outcome_of, place_of};
+ghost use Rattle.http_peers.specs.Codes.{code_name, code_of, outcome_by, outcome_of, place_of, unaccepted};
 
 use http_routes::HttpReply;
 use node_calls::NodeFault;
@@ -116,6 +116,16 @@ fn code_of(fault: NodeFault) -> Option<Code>
     }
 }
 
+// What a message that wasn't accepted came to, by its fault, if one is known.
+fn unaccepted(fault: Option<NodeFault>) -> Outcome
+    ensures { result ≡ unaccepted fault }
+{
+    match fault.and_then(code_of) {
+        Some(code) => Outcome::Refused(code),
+        None => Outcome::Untold,
+    }
+}
+
 /// What a message came to, by the reply to it.
 pub(crate) fn outcome_of(reply: &HttpReply) -> Outcome
     ensures { result ≡ outcome_of (http_value reply.now) }
@@ -123,8 +133,15 @@ pub(crate) fn outcome_of(reply: &HttpReply) -> Outcome
     if reply.status == 200 {
         return Outcome::Accepted;
     }
-    match reply.fault.and_then(code_of) {
-        Some(code) => Outcome::Refused(code),
-        None => Outcome::Untold,
+    unaccepted(reply.fault)
+}
+
+/// What a message came to, by what the node returned.
+pub(crate) fn outcome_by(returned: Result<(), NodeFault>) -> Outcome
+    ensures { result ≡ outcome_by returned }
+{
+    match returned {
+        Ok(()) => Outcome::Accepted,
+        Err(fault) => unaccepted(Some(fault)),
     }
 }

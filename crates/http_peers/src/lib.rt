@@ -1,8 +1,9 @@
 //! Which other nodes of its cluster a served node has heard, and which of their messages it refused.
 //!
 //! Whoever serves a node notes what each message came to, by the reply to it, and puts what was noted into
-//! the status. Where a node hears first, a call is made only once a message of each other node was accepted;
-//! messages and reads wait for nobody.
+//! the status. Whoever takes messages from another transport notes what the node returned for each. Where a
+//! node hears first, a call is made only once a message of each other node was accepted; messages and reads
+//! wait for nobody.
 //!
 //! Nodes tell only news. One that was started again asks each other one to tell it anyway, at `/hello`: who
 //! did is noted, for whoever tells them.
@@ -27,6 +28,6 @@ mod shown;
 mod waits;
 
 pub use heard::{Cluster, Hearing};
-pub use peers::{NotedReply, Peers};
+pub use peers::{NotedDelivery, NotedReply, Peers};
 pub use sender::sender_of;
 pub use waits::waiting;

@@ -6,10 +6,11 @@ ghost use Rattle.http_routes.specs.Replies.{http_value};
 ghost use Rattle.http_peers.specs.Answers.{IsAwaited, IsShown, IsWaitedFor};
 
 use crate::askers::Askers;
-use crate::code::outcome_of;
+use crate::code::{Outcome, outcome_by, outcome_of};
 use crate::heard::{Cluster, Heard, Hearing};
 use crate::shown::with_peers;
 use http_routes::HttpReply;
+use node_calls::NodeFault;
 use std::alloc::{AllocError, Global};
 use std::sync::{Arc, Mutex, Wait};
 use std::time::Clock;
@@ -28,6 +29,14 @@ pub struct Peers {
 pub struct NotedReply {
     sender: Option<u8>,
     reply: HttpReply,
+}
+
+/// What a message came to that was given to the node, once that is noted. Only `Peers::note_delivery`
+/// makes one.
+#[derive(Drop)]
+pub struct NotedDelivery {
+    sender: Option<u8>,
+    returned: Result<(), NodeFault>,
 }
 
 impl NotedReply {
@@ -84,15 +93,34 @@ impl Peers {
         self.askers.take(rt, node)
     }
 
+    // Notes what a message with this sender came to just now.
+    fn note_outcome<R: Wait + Clock>(&self, rt: &R, sender: Option<u8>, outcome: Outcome) {
+        let now = now_of(rt);
+        self.heard.lock(rt).note(self.cluster, sender, outcome, now);
+    }
+
     /// Notes what a message with this sender came to just now, by the reply to it.
     pub fn note<R: Wait + Clock>(&self, rt: &R, sender: Option<u8>, reply: HttpReply) -> NotedReply
         ensures sender { result.sender ≡ sender }
         ensures reply { result.reply ≡ reply }
     {
-        let now = now_of(rt);
-        let outcome = outcome_of(&reply);
-        self.heard.lock(rt).note(self.cluster, sender, outcome, now);
+        self.note_outcome(rt, sender, outcome_of(&reply));
         NotedReply { sender, reply }
+    }
+
+    /// Notes what a message with this sender came to just now that came in another way than by a request:
+    /// what the node returned when it was given the message.
+    pub fn note_delivery<R: Wait + Clock>(
+        &self,
+        rt: &R,
+        sender: Option<u8>,
+        returned: Result<(), NodeFault>,
+    ) -> NotedDelivery
+        ensures sender { result.sender ≡ sender }
+        ensures returned { result.returned ≡ returned }
+    {
+        self.note_outcome(rt, sender, outcome_by(returned));
+        NotedDelivery { sender, returned }
     }
 
     /// A status with what was heard.

@@ -12,6 +12,7 @@ use crate::node_answers::NodeAnswers;
 use http_peers::{NotedReply, Peers, sender_of, waiting};
 use http_routes::{HttpReply, Kind, NodeRequest, Request, RequestFault, Row};
 use http_service::{Ended, Ending, Handler};
+use node_calls::NodeFault;
 use operator_page::PAGE;
 use std::alloc::{AllocError, Global};
 use std::sync::{Arc, Wait};
@@ -76,13 +77,13 @@ impl<N: NodeAnswers> ServedNode<N> {
         }
     }
 
-    // Ends the service if the reply to a message shows that others know more of the node than it does.
-    fn meet<R: Wait>(&self, rt: &R, reply: &HttpReply) -> Option<Ended<'_>>
+    // Ends the service if the fault of a rejected message shows that others know more of the node than it does.
+    fn meet<R: Wait>(&self, rt: &R, fault: Option<NodeFault>) -> Option<Ended<'_>>
         ensures { MatchOption self.now.ending (result ≡ None)
-            (λ ending. IsMet (arc_value ending).reason.id reply.now.fault result) }
+            (λ ending. IsMet (arc_value ending).reason.id fault result) }
     {
         match &self.ending {
-            Some(ending) => ending.meet(rt, reply),
+            Some(ending) => ending.meet(rt, fault),
             None => None,
         }
     }
@@ -119,7 +120,7 @@ impl<N: NodeAnswers> ServedNode<N> {
     {
         let noted = self.noted(rt, alloc, request, message);
         let reply = noted.into_reply();
-        let ended = self.meet(rt, &reply);
+        let ended = self.meet(rt, reply.fault);
         EndedReply { reply, ended }
     }
 

@@ -19,11 +19,12 @@ plain_labels = record { content = Text; methods = None; asks_for_key = false; ta
 abbrev pub key_labels : Labels
 key_labels = record { content = Text; methods = None; asks_for_key = true; tagging = Untagged }
 
--- what a reply with this status is labelled as, by what its request asks for: by the row of the route, where the status
--- is 200; and where the route has another method than the one that was sent, by those that it has
+-- the labels of a reply with this status, by what its request asks for: with 200 those of the route's row, and with 405
+-- the methods that the route has
 abbrev pub labels_of : AskedValue → ℕ → Labels
 labels_of nowhere status = plain_labels
-labels_of (other_method methods) status = record plain_labels { methods = Some methods }
+labels_of (other_method methods) status =
+    if status == 405 then record plain_labels { methods = Some methods } else plain_labels
 labels_of (known request row) status =
     if status == 200 then record plain_labels { content = row.content; tagging = row.tagging } else plain_labels
 

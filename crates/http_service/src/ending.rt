@@ -81,12 +81,13 @@ impl Ending {
         }
     }
 
-    /// Ends the service if a reply shows that others know more of the node than it does.
-    pub fn meet<R: Wait>(&self, rt: &R, reply: &HttpReply) -> Option<Ended<'_>>
-        ensures { MatchOption (reason_of reply.now.fault) (result ≡ None)
+    /// Ends the service if the fault by which the node rejected a message shows that others know more of the
+    /// node than it does.
+    pub fn meet<R: Wait>(&self, rt: &R, fault: Option<NodeFault>) -> Option<Ended<'_>>
+        ensures { MatchOption (reason_of fault) (result ≡ None)
             (λ reason. IsSomeAnd result (IsEnded self.now.reason.id reason)) }
     {
-        let reason = reason_of(reply.fault)?;
+        let reason = reason_of(fault)?;
         Some(self.end(rt, reason))
     }
 

@@ -51,11 +51,11 @@ impl Labels {
                 tagging: row.tagging,
                 ..Labels::plain()
             },
-            Asked::OtherMethod(methods) => Labels {
+            Asked::OtherMethod(methods) if status == 405 => Labels {
                 methods: Some(*methods),
                 ..Labels::plain()
             },
-            Asked::Nowhere | Asked::Known { .. } => Labels::plain(),
+            Asked::Nowhere | Asked::OtherMethod(_) | Asked::Known { .. } => Labels::plain(),
         }
     }
 

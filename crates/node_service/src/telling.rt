@@ -93,7 +93,8 @@ where
     Ok(NodeServed::of(ending, served))
 }
 
-// Tells the peers of a node beside its service.
+// Tells the peers of a node beside its service, which ends if a message from the wire shows that the node has
+// lost its state.
 fn tell<L, R>(
     rt: &R,
     registry: &Registry<L>,
@@ -101,6 +102,7 @@ fn tell<L, R>(
     telling: Telling<L>,
     heard: &Peers,
     service: &Service,
+    ending: &Ending,
 )
 where
     L: Label,
@@ -114,6 +116,7 @@ where
     tell_peers(
         rt, registry, recorder, &mut seat, &options, heard, key, service,
     );
+    let _ = ending.meet(rt, service.lost_state());
 }
 
 // Serves a node, with its gossip in a thread of the scope.
@@ -133,7 +136,10 @@ where
     let registry: &'s Registry<L> = serving.registry;
     let recorder: Option<&'s Recorder<L>> = serving.calls.recorder();
     let heard: &'s Peers = serving.heard;
-    let thread = scope.spawn(move || tell(rt, registry, recorder, telling, heard, service));
+    let ending: &'s Ending = serving.ending;
+    let thread = scope.spawn(move || {
+        tell(rt, registry, recorder, telling, heard, service, ending);
+    });
     let served = serve_alone(rt, serving);
     service.end();
     if let Ok(thread) = thread {

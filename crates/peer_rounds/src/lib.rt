@@ -7,6 +7,8 @@
 //! tell_peers(rt, registry, None, &mut seat, &telling, &heard, key, &service);
 //! // In the first one, after the last client:
 //! service.end();
+//! // After the rounds: whether a message from the wire ended them, since the node has lost its state.
+//! let lost = service.lost_state();
 //! ```
 #![tactic(auto)]
 
@@ -15,8 +17,10 @@ mod host;
 mod peers;
 mod rounds;
 mod service;
+mod taken;
 mod telling;
 
 pub use host::Host;
 pub use service::Service;
+pub use taken::note_taken;
 pub use telling::tell_peers;

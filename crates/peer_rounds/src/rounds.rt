@@ -8,6 +8,7 @@ ghost use Rattle.peer_rounds.specs.Sharing.{rights_by, AreTold, IsSharedFirst};
 use crate::forgetful::{Said, ServedWire};
 use crate::peers::first_paces;
 use crate::service::Service;
+use crate::taken::note_taken;
 use command_line::{GossipOptions, Rights};
 use gossip::{Pace, Reach, gossip_news};
 use http_peers::Peers;
@@ -97,7 +98,9 @@ where
 // Does one round after the other over a wire, with a rest between two, until all are done or the
 // service has ended. Each shares rights first, where they follow demand and calls are made. Then it
 // tells only news, and only who is reached, but whom it was asked to tell; of who answers that it has
-// forgotten what it did that is said. Who is to be heard before calls are made is asked to tell.
+// forgotten what it did that is said. Who is to be heard before calls are made is asked to tell. Each
+// message that it takes in from the wire is noted; where one shows that the node has lost its state, the
+// rounds end, and so does the service.
 fn tell_rounds<L, R, W>(
     rt: &R,
     registry: &Registry<L>,
@@ -133,7 +136,9 @@ where
         let rights = rights_now(rt, heard, wire, telling.rights);
         share_first(rt, registry, seat, &mut sharing, rights);
         wire.keep_calls(rt, rt.alloc());
-        gossip_news(rt, rt.alloc(), registry, seat, wire, paces);
+        let report = gossip_news(rt, rt.alloc(), registry, seat, wire, paces);
+        let _ = note_taken(rt, heard, &report);
+        let _ = service.meet(rt, &report.rejected);
         let forgetful = wire.forgetful(rt.alloc());
         said.say(rt, &forgetful);
     }

@@ -3,6 +3,7 @@
 //! wire that fails leaves behind. And tables of what scripts, nodes, clusters, audits, recordings and
 //! requests are answered, each answer found by hand.
 
+mod any_wire;
 mod audited_workers;
 mod audits;
 mod batches;

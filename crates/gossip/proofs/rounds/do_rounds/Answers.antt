@@ -10,8 +10,8 @@ use Rattle.gossip.proofs.rounds.do_rounds.Goals as goal
 
 pub loop-round-init : goal.loop-round-init
 loop-round-init g c = record {
-  adds = adds_none _ _ _ _ _ _ _ refl refl refl refl refl refl refl;
-  moves = moves_nothing refl refl refl refl;
+  adds = adds_none _ _ _ _ _ _ _ refl refl refl refl refl refl refl refl;
+  moves = moves_nothing refl refl refl refl refl refl;
   tried = omega arith;
   few = omega arith;
 }

@@ -5,8 +5,8 @@ use Rattle.gossip.proofs.rounds.hear.Goals as goal
 
 pub loop-taken-init : goal.loop-taken-init
 loop-taken-init g c = record {
-  adds = adds_none _ _ _ _ _ _ _ refl refl refl refl refl refl refl;
-  moves = moves_nothing refl refl refl refl;
+  adds = adds_none _ _ _ _ _ _ _ refl refl refl refl refl refl refl refl;
+  moves = moves_nothing refl refl refl refl refl refl;
   tried = omega arith;
   few = omega arith;
 }

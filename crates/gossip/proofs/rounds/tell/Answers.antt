@@ -9,8 +9,8 @@ use Rattle.gossip.proofs.rounds.tell.Goals.{then-to-node+in_ok-tell_one, else-to
 
 pub loop-to-init : goal.loop-to-init
 loop-to-init g c = record {
-  adds = adds_none _ _ _ _ _ _ _ refl refl refl refl refl refl refl;
-  moves = moves_nothing refl refl refl refl;
+  adds = adds_none _ _ _ _ _ _ _ refl refl refl refl refl refl refl refl;
+  moves = moves_nothing refl refl refl refl refl refl;
   tried = omega arith;
   few = omega arith;
 }

@@ -8,7 +8,7 @@ use Rattle.gossip.proofs.spreading.shift_all.Goals as goal
 pub loop-term-init : goal.loop-term-init
 unfolding shifts_in
 loop-term-init g c = record {
-  adds = adds_none _ _ _ _ _ _ _ refl refl refl refl refl refl refl;
+  adds = adds_none _ _ _ _ _ _ _ refl refl refl refl refl refl refl refl;
   emitted = refl;
   delivered = refl;
   tried = omega arith;

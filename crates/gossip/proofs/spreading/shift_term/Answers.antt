@@ -15,11 +15,11 @@ shifts_are config name term amount share n e some =
     sym (ap (λ b. if b then [] else all amount) (unequal amount 0 some)) ∙ ap (λ s. shifts_below config name term s n) e
 
 pub returns-then-amount-eq0-clause-adds : goal.returns-then-amount-eq0-clause-adds
-returns-then-amount-eq0-clause-adds g c = adds_none _ _ _ _ _ _ _ refl refl refl refl refl refl refl
+returns-then-amount-eq0-clause-adds g c = adds_none _ _ _ _ _ _ _ refl refl refl refl refl refl refl refl
 
 pub loop-to-init : goal.loop-to-init
 loop-to-init g c = record {
-  adds = adds_none _ _ _ _ _ _ _ refl refl refl refl refl refl refl;
+  adds = adds_none _ _ _ _ _ _ _ refl refl refl refl refl refl refl refl;
   emitted = refl;
   delivered = refl;
   tried = omega arith;

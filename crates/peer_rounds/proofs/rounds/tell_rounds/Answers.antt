@@ -11,7 +11,7 @@ loop-round-preserved g c =
     let config = g.L.Label.config in
     let was = c.loop-round.invariant in
     let first = c.share_first in
-    let news = c.gossip_news in
+    let news = c.gossip_news-report in
     let more = calls_of_a_round config g.L.Label.seed (Says g.W.Reach.reached) first.new.seat.calls first.new.seat
     news.new.seat (most_peers config) (g.W.Wire.traffic c.keep_calls.new.self) (g.W.Wire.traffic news.new.wire)
     c.greet.new.paces news.new.paces news.result news.ensures.told news.ensures.round news.ensures.broken

@@ -1,0 +1,73 @@
+//! What a round took in, noted where it is known who was heard.
+
+ghost use Rattle.std.specs.Prelude.{◌≡◌, ◌++◌, ◌∷◌, [], map};
+ghost use Rattle.peer_rounds.specs.Taken.{accepted_in, rejected_as, taken_as, taken_in};
+
+use gossip::{GossipReport, Log, Rejected, sender_of};
+use http_peers::{NotedDelivery, Peers};
+use node_core::{Ask, Receipt};
+use std::sync::Wait;
+use std::time::Clock;
+
+// Notes the message of an accepted call, if the call took one in.
+fn note_receipt<R: Wait + Clock>(
+    rt: &R,
+    heard: &Peers,
+    receipt: &Receipt,
+    noted: &mut Log<NotedDelivery>,
+)
+    ensures { map taken_as noted.new.items
+        ≡ map taken_as noted.old.items ++ accepted_in (receipt.now ∷ []) }
+{
+    if let Ask::Deliver { message } = &receipt.entry.ask {
+        let delivery = heard.note_delivery(rt, sender_of(message), Ok(()));
+        noted.add(&delivery);
+    }
+}
+
+// Notes the messages that were accepted.
+fn note_accepted<R: Wait + Clock>(
+    rt: &R,
+    heard: &Peers,
+    receipts: &[Receipt],
+    noted: &mut Log<NotedDelivery>,
+)
+    ensures { map taken_as noted.new.items
+        ≡ map taken_as noted.old.items ++ accepted_in receipts.now }
+{
+    for receipt in receipts {
+        note_receipt(rt, heard, receipt, noted);
+    }
+}
+
+// Notes the messages that were rejected.
+fn note_rejected<R: Wait + Clock>(
+    rt: &R,
+    heard: &Peers,
+    rejected: &[Rejected],
+    noted: &mut Log<NotedDelivery>,
+)
+    ensures { map taken_as noted.new.items
+        ≡ map taken_as noted.old.items ++ map rejected_as rejected.now }
+{
+    for message in rejected {
+        let delivery = heard.note_delivery(rt, message.sender, Err(message.fault));
+        noted.add(&delivery);
+    }
+}
+
+/// Notes each message that a round took in: of whom it is, and whether the node accepted it, or why it
+/// rejected it. The answer shows which were noted, and takes no memory. Who does rounds over a wire of
+/// their own calls it after each.
+pub fn note_taken<R: Wait + Clock>(
+    rt: &R,
+    heard: &Peers,
+    report: &GossipReport,
+) -> Log<NotedDelivery>
+    ensures { map taken_as result.items ≡ taken_in report.now }
+{
+    let mut noted = Log::new();
+    note_accepted(rt, heard, &report.receipts, &mut noted);
+    note_rejected(rt, heard, &report.rejected, &mut noted);
+    noted
+}
