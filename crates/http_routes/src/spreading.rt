@@ -32,7 +32,7 @@ pub fn spread(core: &mut NodeCore, alloc: Global, name: &str) -> HttpReply
         return HttpReply::no_memory(alloc);
     };
     match node_sharing::spread(core, alloc, name) {
-        // A number of rights is told as the one of a grant is.
+        // The number of rights is written like that of a grant.
         Ok(kept) => room.reply(&Ok(Reply::Grant(kept))),
         Err(fault) => room.reply(&Err(fault)),
     }

@@ -63,7 +63,7 @@ pub enum Content {
     Page,
 }
 
-/// Whether a body is told with a tag, by which a client may ask later for another one only.
+/// Whether a body has a tag (`ETag`), by which a client asks later only for a changed body.
 #[derive(Clone, Copy, Debug, PartialEq, Eq)]
 pub enum Tagging {
     Untagged,

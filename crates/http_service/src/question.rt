@@ -57,7 +57,7 @@ impl<H: Handler> Question<H> {
         self.handler.reply(rt, alloc, request, *row, body)
     }
 
-    /// The reply to a body that is longer than the longest, however it goes on.
+    /// The reply to a body that is longer than the longest, whatever the rest of it is.
     pub fn reply_too_long(&self, alloc: Global) -> HttpReply
         ensures { (longer : List ℕ) → max_message < length longer
             → AnswersAsked (H.answers (arc_value self.now.handler)) (asked_value self.now.asked)

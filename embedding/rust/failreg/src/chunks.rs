@@ -17,8 +17,7 @@ pub enum ChunkFault {
     NoMemory,
 }
 
-/// Adds bytes to a body. A failed allocation is an error: whoever sends a body doesn't decide
-/// whether the program goes on.
+/// Adds bytes to a body. A failed allocation is an error, so that no client can end the program.
 pub fn extend(body: &mut Vec<u8>, bytes: &[u8]) -> Result<(), TryReserveError> {
     body.try_reserve(bytes.len())?;
     body.extend_from_slice(bytes);

@@ -1,5 +1,5 @@
-//! A served program whose allocations fail while a body is read answers 503, and goes on. The
-//! allocator of this program refuses, so no other test runs in it.
+//! A served program returns 503 if an allocation fails while it reads a body, and serves the next
+//! request. The allocator of this program refuses, so no other test runs in it.
 
 #![cfg(feature = "failpoints")]
 
