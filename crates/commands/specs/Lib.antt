@@ -1,4 +1,6 @@
 pub mod Statuses
+pub mod Forms
+pub mod Formats
 pub mod Audited
 pub mod RefusedText
 pub mod ShortLines

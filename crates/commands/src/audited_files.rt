@@ -6,13 +6,16 @@ ghost use Rattle.streams.specs.Watched.{has_failed, has_unflushed};
 ghost use Rattle.drills.specs.declared.fault.DrillFault.TheVariants.{WriteFailed};
 ghost use Rattle.commands.specs.declared.audit_refused.AuditRefused.TheVariants.{Drill};
 ghost use Rattle.commands.specs.Audited.{SaysOfAFile, SaysOfSomeParts};
+ghost use Rattle.commands.specs.Formats.{answer_format};
 ghost use Rattle.commands.specs.Statuses.{OnStatus};
 
 use crate::advice::{advice_on_audit, missing_of};
 use crate::audit_refused::AuditRefused;
 use crate::auditing::{audit_drill, audit_parts};
 use crate::finish::{finish_audit, refuse_missing};
+use crate::formats::answer_format;
 use crate::short_lines::ShortLines;
+use answers::Format;
 use drills::{DrillFault, Part, part_head_in, read_part};
 use scripts::Watched;
 use std::alloc::{AllocError, AllocGlobal, Global};
@@ -78,18 +81,19 @@ pub fn alone(alloc: Global, part: Part) -> Result<Vec<Part>, AllocError> {
 // Audits the part that a reader gives.
 fn audit_part<I: Read + Drop, O: Write>(
     alloc: Global,
+    format: Format,
     input: I,
     writer: &mut Watched<O>,
 ) -> Result<bool, AuditRefused>
     requires { has_failed writer.old ≡ false }
-    ensures ok { IfOk result (λ yes. SaysOfSomeParts yes O.contents writer.old writer.new) }
+    ensures ok { IfOk result (λ yes. SaysOfSomeParts format yes O.contents writer.old writer.new) }
     ensures flushed { IfOk result (λ yes. has_unflushed writer.new ≡ false) }
     ensures write_failed { (result ≡ Err (Drill WriteFailed)) ↔ (has_failed writer.new ≡ true) }
     ensures unwritten { IfErr result (λ fault. fault ≢ Drill WriteFailed
         → writer.new ≡ writer.old) }
 {
     match part_from(alloc, input) {
-        Ok(part) => audit_parts(alloc, alone(alloc, part)?, writer),
+        Ok(part) => audit_parts(alloc, format, alone(alloc, part)?, writer),
         Err(fault) => Err(AuditRefused::Part { file: 0, fault }),
     }
 }
@@ -97,11 +101,12 @@ fn audit_part<I: Read + Drop, O: Write>(
 // Audits the drill that a reader gives.
 fn audit_whole<I: Read + Drop, O: Write>(
     alloc: Global,
+    format: Format,
     input: I,
     writer: &mut Watched<O>,
 ) -> Result<bool, AuditRefused>
     requires { has_failed writer.old ≡ false }
-    ensures ok { IfOk result (λ yes. SaysOfAFile yes O.contents writer.old writer.new) }
+    ensures ok { IfOk result (λ yes. SaysOfAFile format yes O.contents writer.old writer.new) }
     ensures flushed { IfOk result (λ yes. has_unflushed writer.new ≡ false) }
     ensures write_failed { (result ≡ Err (Drill WriteFailed)) ↔ (has_failed writer.new ≡ true) }
     ensures unwritten { IfErr result (λ fault. fault ≢ Drill WriteFailed
@@ -110,7 +115,7 @@ fn audit_whole<I: Read + Drop, O: Write>(
     let Ok(mut reader) = BufReader::new(alloc, Watched::new(input)) else {
         return Err(AuditRefused::from(AllocError));
     };
-    match audit_drill(alloc, &mut reader, writer) {
+    match audit_drill(alloc, format, &mut reader, writer) {
         Ok(yes) => Ok(yes),
         Err(fault) => Err(AuditRefused::Drill { fault }),
     }
@@ -119,11 +124,12 @@ fn audit_whole<I: Read + Drop, O: Write>(
 // Audits the drill or the part in what is read, which its first line tells.
 fn audit_input<I: Read + Drop, O: Write>(
     alloc: Global,
+    format: Format,
     input: I,
     writer: &mut Watched<O>,
 ) -> Result<bool, AuditRefused>
     requires { has_failed writer.old ≡ false }
-    ensures ok { IfOk result (λ yes. SaysOfAFile yes O.contents writer.old writer.new) }
+    ensures ok { IfOk result (λ yes. SaysOfAFile format yes O.contents writer.old writer.new) }
     ensures flushed { IfOk result (λ yes. has_unflushed writer.new ≡ false) }
     ensures write_failed { (result ≡ Err (Drill WriteFailed)) ↔ (has_failed writer.new ≡ true) }
     ensures unwritten { IfErr result (λ fault. fault ≢ Drill WriteFailed
@@ -135,9 +141,9 @@ fn audit_input<I: Read + Drop, O: Write>(
     let (first, is_part) = first_of(alloc, &mut reader)?;
     let whole = first.as_slice().chain(&mut reader);
     if is_part {
-        audit_part(alloc, whole, writer)
+        audit_part(alloc, format, whole, writer)
     } else {
-        audit_whole(alloc, whole, writer)
+        audit_whole(alloc, format, whole, writer)
     }
 }
 
@@ -145,21 +151,22 @@ fn audit_input<I: Read + Drop, O: Write>(
 fn audit_file<R: Files + Input, O: Write>(
     rt: &R,
     alloc: Global,
+    format: Format,
     path: &str,
     writer: &mut Watched<O>,
 ) -> Result<bool, AuditRefused>
     requires { has_failed writer.old ≡ false }
-    ensures ok { IfOk result (λ yes. SaysOfAFile yes O.contents writer.old writer.new) }
+    ensures ok { IfOk result (λ yes. SaysOfAFile format yes O.contents writer.old writer.new) }
     ensures flushed { IfOk result (λ yes. has_unflushed writer.new ≡ false) }
     ensures write_failed { (result ≡ Err (Drill WriteFailed)) ↔ (has_failed writer.new ≡ true) }
     ensures unwritten { IfErr result (λ fault. fault ≢ Drill WriteFailed
         → writer.new ≡ writer.old) }
 {
     if path == "-" {
-        return audit_input(alloc, rt.reader(), writer);
+        return audit_input(alloc, format, rt.reader(), writer);
     }
     match fs::open(rt, path) {
-        Ok(file) => audit_input(alloc, file, writer),
+        Ok(file) => audit_input(alloc, format, file, writer),
         Err(_) => Err(AuditRefused::Drill {
             fault: DrillFault::ReadFailed,
         }),
@@ -200,13 +207,14 @@ pub fn parts_in_files<R: Files + Input>(
 pub fn audit_files<R: Files + Input, O: Write>(
     rt: &R,
     alloc: Global,
+    format: Format,
     paths: &[&str],
     writer: &mut Watched<O>,
 ) -> Result<bool, AuditRefused>
     requires { has_failed writer.old ≡ false }
     // Of a file's bytes nothing is known; it is an audit of some drill, or of some parts, and nothing
     // else is written.
-    ensures ok { IfOk result (λ yes. SaysOfAFile yes O.contents writer.old writer.new) }
+    ensures ok { IfOk result (λ yes. SaysOfAFile format yes O.contents writer.old writer.new) }
     ensures flushed { IfOk result (λ yes. has_unflushed writer.new ≡ false) }
     ensures write_failed { (result ≡ Err (Drill WriteFailed)) ↔ (has_failed writer.new ≡ true) }
     // After any other fault the writer is as it was.
@@ -214,26 +222,29 @@ pub fn audit_files<R: Files + Input, O: Write>(
         → writer.new ≡ writer.old) }
 {
     if let [path] = paths {
-        return audit_file(rt, alloc, path, writer);
+        return audit_file(rt, alloc, format, path, writer);
     }
     let parts = parts_in_files(rt, alloc, paths)?;
-    audit_parts(alloc, parts, writer)
+    audit_parts(alloc, format, parts, writer)
 }
 
-/// Audits the drill or the part in a file, or the parts in several. The path `-` is standard input.
+/// Audits the drill or the part in a file, or the parts in several, and writes what the audit says, as
+/// JSON objects where these are wanted. The path `-` is standard input.
 pub fn audit<R: Eprint + AllocGlobal + Files + Input, O: Write>(
     rt: &R,
     paths: &[&str],
+    json: bool,
     writer: &mut Watched<O>,
 ) -> anyhow::Result<ExitCode>
     requires { has_failed writer.old ≡ false }
-    ensures done { OnStatus result 0 (SaysOfAFile true O.contents writer.old writer.new) }
+    ensures done { OnStatus result 0 (SaysOfAFile (answer_format json) true
+        O.contents writer.old writer.new) }
     ensures status { IfOk result (λ code. (exit_status code ≡ 0) ⊎ (exit_status code ≡ 1)) }
 {
     if let Some(path) = missing_of(rt, paths) {
         return refuse_missing(rt, path);
     }
-    let audited = audit_files(rt, rt.alloc(), paths, writer);
+    let audited = audit_files(rt, rt.alloc(), answer_format(json), paths, writer);
     let advice = advice_on_audit(rt.alloc(), paths, &audited);
     finish_audit(rt, audited, &advice)
 }

@@ -1,7 +1,7 @@
 //! The audit of a recorded drill, and of parts.
 
 ghost use Rattle.std.specs.Prelude.{◌≡◌, ◌≢◌, ◌↔◌, ◌++◌, ℕ, map, min, length, IfOk, IfErr, OnOk};
-ghost use Rattle.std.specs.Prelude.{string_bytes, None, Ok, Err, true, false};
+ghost use Rattle.std.specs.Prelude.{None, Ok, Err, true, false};
 ghost use Rattle.std.specs.Io.Buffered.{reader_inner};
 ghost use Rattle.audit.specs.Answers.{IsAudited};
 ghost use Rattle.streams.specs.Watched.{has_failed, has_unflushed};
@@ -15,11 +15,11 @@ ghost use Rattle.commands.specs.Audited.{AreToldOf, IsToldOf, SaysOfParts, SaysV
 ghost use Rattle.commands.specs.Audited.{cuts_below, cuts_text, is_cut_at, nodes_in};
 
 use crate::audit_refused::AuditRefused;
-use audit::{AuditFault, AuditYes, audit, verdict_text};
+use answers::{Answer, Format, Printed};
+use audit::{AuditFault, AuditYes, audit};
 use drills::{Drill, DrillFault, Part, joined, read_drill};
 use scripts::{Watched, write_text};
 use std::alloc::{AllocError, Global};
-use std::fmt::Write as _;
 use std::io::{BufReader, Read, Write};
 
 // How many nodes have so many traces. No cluster has 255 of them.
@@ -44,26 +44,28 @@ pub fn judged(alloc: Global, drill: &Drill) -> Result<Result<AuditYes, AuditFaul
 }
 
 // What an audit says of a drill, and whether that is a yes.
-fn told_of(alloc: Global, drill: &Drill) -> Result<(String, bool), DrillFault>
-    ensures told { IfOk result (λ told. IsToldOf drill.now.traces.items drill.now.lists.items
-        told.1 (string_bytes told.0)) }
+fn told_of(alloc: Global, format: Format, drill: &Drill) -> Result<(Printed, bool), DrillFault>
+    ensures told { IfOk result (λ told. IsToldOf format drill.now.traces.items
+        drill.now.lists.items told.1 told.0.bytes) }
     ensures err { IfErr result (λ fault. fault ≡ DrillFault.OutOfMemory) }
 {
     let verdict = judged(alloc, drill)?;
-    let text = verdict_text(alloc, &verdict)?;
-    Ok((text, verdict.is_ok()))
+    let mut printed = Printed::new(alloc, format);
+    printed.put_verdict(alloc, &verdict)?;
+    Ok((printed, verdict.is_ok()))
 }
 
 /// Audits the drill that a reader gives, writes what the audit says, and answers whether it is a yes.
 pub fn audit_drill<I: Read, O: Write>(
     alloc: Global,
+    format: Format,
     reader: &mut BufReader<Watched<I>>,
     writer: &mut Watched<O>,
 ) -> Result<bool, DrillFault>
     requires { has_failed writer.old ≡ false }
     // It is an audit of the drill that the bytes are, and nothing else is written.
-    ensures ok { IfOk result (λ yes. SaysVerdict (bytes_left I.remaining reader.old)
-        yes O.contents writer.old writer.new) }
+    ensures ok { IfOk result (λ yes. SaysVerdict format
+        (bytes_left I.remaining reader.old) yes O.contents writer.old writer.new) }
     ensures flushed { IfOk result (λ yes. has_unflushed writer.new ≡ false) }
     // The line is the first that is bad.
     ensures bad_line { (line : ℕ) → result ≡ Err (BadLine line) →
@@ -75,8 +77,8 @@ pub fn audit_drill<I: Read, O: Write>(
     ensures unwritten { IfErr result (λ fault. fault ≢ WriteFailed → writer.new ≡ writer.old) }
 {
     let drill = read_drill(alloc, reader)?;
-    let (text, yes) = told_of(alloc, &drill)?;
-    match write_text(writer, text.as_bytes()) {
+    let (printed, yes) = told_of(alloc, format, &drill)?;
+    match write_text(writer, &printed.into_bytes()) {
         Ok(()) => Ok(yes),
         Err(_) => Err(DrillFault::WriteFailed),
     }
@@ -94,14 +96,19 @@ fn is_cut_at(parts: &[Part], node: u8) -> bool
     false
 }
 
-// Adds a line for each of so many nodes whose part was cut.
-fn push_cuts(text: &mut String, parts: &[Part], nodes: u8) -> Result<(), AllocError>
-    ensures { OnOk result (string_bytes text.new
-        ≡ string_bytes text.old ++ cuts_below nodes (map part_of parts.now)) }
+// Adds an answer for each of so many nodes whose part was cut.
+fn put_cuts(
+    alloc: Global,
+    printed: &mut Printed,
+    parts: &[Part],
+    nodes: u8,
+) -> Result<(), AllocError>
+    ensures { OnOk result (printed.new.bytes ≡ printed.old.bytes
+        ++ cuts_below printed.old.format nodes (map part_of parts.now)) }
 {
     for node in 0..nodes {
         if is_cut_at(parts, node) {
-            writeln!(text, "cut node={node}")?;
+            printed.put(alloc, Answer::Cut(node))?;
         }
     }
     Ok(())
@@ -117,13 +124,13 @@ fn nodes_in(parts: &[Part]) -> u8
     }
 }
 
-// A line for each node whose part was cut, in the order of the nodes.
-fn cuts_text(alloc: Global, parts: &[Part]) -> Result<String, AllocError>
-    ensures { IfOk result (λ text. string_bytes text ≡ cuts_text (map part_of parts.now)) }
+// An answer for each node whose part was cut, in the order of the nodes.
+fn cuts_text(alloc: Global, format: Format, parts: &[Part]) -> Result<Vec<u8>, AllocError>
+    ensures { IfOk result (λ text. text.items ≡ cuts_text format (map part_of parts.now)) }
 {
-    let mut text = String::new(alloc);
-    push_cuts(&mut text, parts, nodes_in(parts))?;
-    Ok(text)
+    let mut printed = Printed::new(alloc, format);
+    put_cuts(alloc, &mut printed, parts, nodes_in(parts))?;
+    Ok(printed.into_bytes())
 }
 
 // The drill that parts join to.
@@ -143,34 +150,39 @@ pub fn drill_of_parts(alloc: Global, parts: Vec<Part>) -> Result<Drill, AuditRef
 
 // What an audit says of the drill that parts join to, and behind it which parts were cut; and whether it
 // says yes.
-fn told_of_parts(alloc: Global, parts: Vec<Part>) -> Result<(String, bool), AuditRefused>
+fn told_of_parts(
+    alloc: Global,
+    format: Format,
+    parts: Vec<Part>,
+) -> Result<(Printed, bool), AuditRefused>
     ensures told { IfOk result (λ told.
-        AreToldOf (map part_of parts.items) told.1 (string_bytes told.0)) }
+        AreToldOf format (map part_of parts.items) told.1 told.0.bytes) }
     ensures refused { (fault : JoinFault) → result ≡ Err (AuditRefused.Join fault)
         → fault ≢ JoinFault.OutOfMemory
         → joined_of (map part_of parts.items) ≡ Err fault }
     ensures only { IfErr result (λ fault. fault ≢ AuditRefused.Drill WriteFailed) }
 {
-    let cuts = cuts_text(alloc, &parts)?;
+    let cuts = cuts_text(alloc, format, &parts)?;
     let drill = drill_of_parts(alloc, parts)?;
-    let (mut text, is_yes) = match told_of(alloc, &drill) {
+    let (mut printed, is_yes) = match told_of(alloc, format, &drill) {
         Ok(told) => told,
         Err(fault) => return Err(AuditRefused::Drill { fault }),
     };
-    text.push_str(&cuts)?;
-    Ok((text, is_yes))
+    printed.put_bytes(&cuts)?;
+    Ok((printed, is_yes))
 }
 
 /// Audits the drill that parts join to, writes what the audit says and behind it which parts were cut,
 /// and answers whether it is a yes.
 pub fn audit_parts<O: Write>(
     alloc: Global,
+    format: Format,
     parts: Vec<Part>,
     writer: &mut Watched<O>,
 ) -> Result<bool, AuditRefused>
     requires { has_failed writer.old ≡ false }
     // It is an audit of the drill that they join to, and nothing else is written.
-    ensures ok { IfOk result (λ yes. SaysOfParts (map part_of parts.items)
+    ensures ok { IfOk result (λ yes. SaysOfParts format (map part_of parts.items)
         yes O.contents writer.old writer.new) }
     ensures flushed { IfOk result (λ yes. has_unflushed writer.new ≡ false) }
     // Where they don't join, it is for that reason.
@@ -183,8 +195,8 @@ pub fn audit_parts<O: Write>(
     ensures unwritten { IfErr result (λ fault. fault ≢ AuditRefused.Drill WriteFailed
         → writer.new ≡ writer.old) }
 {
-    let (text, is_yes) = told_of_parts(alloc, parts)?;
-    match write_text(writer, text.as_bytes()) {
+    let (printed, is_yes) = told_of_parts(alloc, format, parts)?;
+    match write_text(writer, &printed.into_bytes()) {
         Ok(()) => Ok(is_yes),
         Err(_) => Err(AuditRefused::Drill {
             fault: DrillFault::WriteFailed,

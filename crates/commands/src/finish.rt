@@ -1,6 +1,6 @@
 //! How a subcommand ends: what it says last, and its exit status.
 
-ghost use Rattle.std.specs.Prelude.{◌≡◌, ◌↔◌, ◌⊎◌, true, false, IfOk, IsOk, IsErr, Ok};
+ghost use Rattle.std.specs.Prelude.{◌≡◌, ◌↔◌, ◌⊎◌, [], true, false, IfOk, IsOk, IsErr, Ok};
 ghost use Rattle.std.specs.Process.{exit_status};
 ghost use Rattle.streams.specs.Streams.{Writes};
 ghost use Rattle.streams.specs.Watched.{has_failed};
@@ -35,8 +35,9 @@ pub fn refuse<R: Eprint, E: Display + Drop>(
 /// Says what there is to say: that it can't be written is no fault.
 pub fn say<E: Write>(errors: &mut Watched<E>, said: &[u8])
     requires { has_failed errors.old ≡ false }
-    ensures { has_failed errors.new ≡ false →
+    ensures said { has_failed errors.new ≡ false →
         Writes E.contents errors.old errors.new said.now }
+    ensures nothing { said.now ≡ [] → errors.new ≡ errors.old }
 {
     if !said.is_empty() {
         let _ = write_text(errors, said);

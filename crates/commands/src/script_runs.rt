@@ -1,27 +1,39 @@
 //! Scripts that are run, and checked where that is wanted.
 
-ghost use Rattle.std.specs.Prelude.{◌≡◌, ◌≢◌, ◌<◌, ◌⊎◌, true, false, length, if◌then◌else◌};
+ghost use Rattle.std.specs.Prelude.{◌≡◌, ◌≢◌, ◌<◌, ◌⊎◌, true, false, length};
 ghost use Rattle.std.specs.Prelude.{IfOk, IsErr, OnOk};
 ghost use Rattle.std.specs.Process.{exit_status};
-ghost use Rattle.scripts.specs.Checks.{answered_text, checked_status, checked_text};
-ghost use Rattle.scripts.specs.Script.{echoed_text, script_text};
+ghost use Rattle.scripts.specs.Checks.{checked_status, checked_text, told_text};
 ghost use Rattle.scripts.specs.Warnings.{warned_text};
 ghost use Rattle.streams.specs.Streams.{IfInput, Writes};
 ghost use Rattle.streams.specs.Watched.{has_failed, has_unflushed};
+ghost use Rattle.commands.specs.Forms.{form_of, printed_by};
 ghost use Rattle.commands.specs.Statuses.{HasStatus, OnStatus};
 
 use crate::finish::{finish_checked, finish_script};
 use command_line::SimOptions;
 use scripts::{
-    MOST_BYTES, ScriptFault, Watched, run_script, run_script_checked, run_script_echoing,
-    run_script_warning,
+    Form, MOST_BYTES, ScriptFault, Watched, run_script_as, run_script_checked, run_script_warning,
 };
 use std::alloc::{AllocGlobal, Global};
 use std::io::{Read, Write};
 use std::process::ExitCode;
 
-// Runs a script that isn't checked: where that is asked for with each line before what it prints, and
-// saying what goes wrong in it.
+// How answers are printed. Lines aren't echoed before JSON objects.
+fn form_of(options: SimOptions) -> Form
+    ensures { result ≡ form_of options }
+{
+    if options.json {
+        return Form::Objects;
+    }
+    if options.echo {
+        Form::Echoed
+    } else {
+        Form::Plain
+    }
+}
+
+// Runs a script that isn't checked, and says what goes wrong in it, unless that isn't wanted.
 fn run_unchecked<I: Read, O: Write, E: Write>(
     alloc: Global,
     options: SimOptions,
@@ -33,8 +45,7 @@ fn run_unchecked<I: Read, O: Write, E: Write>(
     requires writer { has_failed writer.old ≡ false }
     requires errors { has_failed errors.old ≡ false }
     ensures ok { OnOk result (IfInput I.remaining reader.old (λ input.
-        Writes O.contents writer.old writer.new
-        (if options.echo then echoed_text input else script_text input))) }
+        Writes O.contents writer.old writer.new (printed_by options input))) }
     ensures flushed { OnOk result (has_unflushed writer.new ≡ false) }
     ensures said { options.quiet ≡ false → OnOk result (
         has_failed errors.new ≡ false → IfInput I.remaining reader.old (λ input.
@@ -45,17 +56,14 @@ fn run_unchecked<I: Read, O: Write, E: Write>(
     ensures long { IfInput I.remaining reader.old (λ input.
         MOST_BYTES < length input → IsErr result) }
 {
-    let SimOptions { echo, quiet, .. } = options;
-    if !quiet {
-        run_script_warning(alloc, echo, reader, writer, errors)
-    } else if echo {
-        run_script_echoing(alloc, reader, writer)
+    if options.quiet {
+        run_script_as(alloc, form_of(options), reader, writer)
     } else {
-        run_script(alloc, reader, writer)
+        run_script_warning(alloc, form_of(options), reader, writer, errors)
     }
 }
 
-/// Runs the script that a reader gives, and may echo its lines and say which go wrong.
+/// Runs the script that a reader gives, and may say which of its lines go wrong.
 pub fn sim<R: Eprint + AllocGlobal, I: Read, O: Write, E: Write>(
     rt: &R,
     options: SimOptions,
@@ -68,8 +76,7 @@ pub fn sim<R: Eprint + AllocGlobal, I: Read, O: Write, E: Write>(
     requires errors { has_failed errors.old ≡ false }
     // With status 0 the whole text of what was read is written and flushed.
     ensures done { OnStatus result 0 (IfInput I.remaining reader.old (λ input.
-        Writes O.contents writer.old writer.new
-        (if options.echo then echoed_text input else script_text input))) }
+        Writes O.contents writer.old writer.new (printed_by options input))) }
     ensures flushed { OnStatus result 0 (has_unflushed writer.new ≡ false) }
     // And what goes wrong in it is said, unless that isn't wanted.
     ensures said { options.quiet ≡ false → OnStatus result 0 (
@@ -87,10 +94,10 @@ pub fn sim<R: Eprint + AllocGlobal, I: Read, O: Write, E: Write>(
     finish_script(rt, run, "")
 }
 
-/// Runs the script that a reader gives as one that is checked, and may echo its lines.
+/// Runs the script that a reader gives as one that is checked.
 pub fn check<R: Eprint + AllocGlobal, I: Read, O: Write, E: Write>(
     rt: &R,
-    echo: bool,
+    options: SimOptions,
     reader: &mut Watched<I>,
     writer: &mut Watched<O>,
     errors: &mut Watched<E>,
@@ -106,7 +113,7 @@ pub fn check<R: Eprint + AllocGlobal, I: Read, O: Write, E: Write>(
     // Then what its lines print is written and flushed, and what is said of them.
     ensures printed { IfOk result (λ code. exit_status code ≢ 1 →
         IfInput I.remaining reader.old (λ input.
-        Writes O.contents writer.old writer.new (answered_text echo input))) }
+        Writes O.contents writer.old writer.new (told_text (form_of options) input))) }
     ensures flushed { IfOk result (λ code. exit_status code ≢ 1 →
         has_unflushed writer.new ≡ false) }
     ensures said { IfOk result (λ code. exit_status code ≢ 1 → has_failed errors.new ≡ false →
@@ -120,6 +127,6 @@ pub fn check<R: Eprint + AllocGlobal, I: Read, O: Write, E: Write>(
 {
     finish_checked(
         rt,
-        run_script_checked(rt.alloc(), echo, reader, writer, errors),
+        run_script_checked(rt.alloc(), form_of(options), reader, writer, errors),
     )
 }

@@ -1,7 +1,8 @@
 -- Lines that are written one after the other.
 use Rattle.std.proofs.Common.{◌≡◌, ℕ, suc, ◌+◌, ◌<◌, ◌≤◌, List, [], ◌∷◌, ◌++◌, length, get_or, map, take, flat_map, Bool, true, false, Option, Some, None, Result, Ok, Err, refl, sym, ap, ◌∙◌, arith, append_assoc, append-nil}
-use Rattle.std.specs.Prelude.{All, ◌↔◌, ⊤, slice_get}
+use Rattle.std.specs.Prelude.{All, IsOk, OnOk, ◌↔◌, ⊤, slice_get}
 use Rattle.std.specs.Io.KnownBytes.{Appends, Keeps}
+use Rattle.std.proofs.lemmas.Bool.{true≢false}
 use Rattle.std.proofs.lemmas.Grind.{flat_map-append}
 use Rattle.std.proofs.lemmas.List.{length-take-le, map-append, map_more}
 use Rattle.std.proofs.lemmas.List.Elements.{All-append, All-cons, All-nil}
@@ -31,6 +32,15 @@ pub one_line : (old new : Option (List ℕ)) (text : List ℕ) (line : LineTold)
     Appends old new (text ++ newline ∷ []) → Holds old new (line ∷ [])
 one_line old new text line says written =
     (rw (append-nil (ended line)) (rw says.0 at written), All-cons ReadsBack line [] says.1 (All-nil ReadsBack))
+
+-- what holds of a result that is one
+pub ok_so : {T E P : Type 0} (r : Result T E) → IsOk r → OnOk r P → P
+ok_so (Ok x) is h = h
+ok_so (Err e) is h = absurd (true≢false (sym is))
+
+pub added_line : (old new : Option (List ℕ)) (line : LineTold) → Appends old new (ended line) × ReadsBack line →
+    Holds old new (line ∷ [])
+added_line old new line h = (rw (append-nil (ended line)) h.0, All-cons ReadsBack line [] h.1 (All-nil ReadsBack))
 
 -- nothing was written yet
 pub none_yet : (old : Option (List ℕ)) → Holds old old []

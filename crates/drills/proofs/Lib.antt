@@ -1,6 +1,8 @@
 pub mod Newlines
 pub mod Cut
 pub mod Plain
+pub mod ReadBack
+pub mod CallTexts
 pub mod Backs
 pub mod Folds
 pub mod Said

@@ -11,7 +11,7 @@ use Rattle.node_calls.specs.Told.{AskTold, sets, removes, loads, passes, shifts,
 use Rattle.drills.specs.Lines.{LineTold, head, trace, entry, list, receipt, part_head, line_data}
 use Rattle.drills.specs.Rows.{count_data, text_data, row, words_data, task_data, ask_data, pass_data, reply_data}
 
-record IsPlain (deep : ℕ) (d : Data) : Type 0 where
+pub record IsPlain (deep : ℕ) (d : Data) : Type 0 where
   pub floatless : has_float d ≡ false
   pub shallow : depth d ≤ deep
 
@@ -33,7 +33,7 @@ task_plain pause = record { floatless = refl; shallow = omega arith }
 task_plain yield = record { floatless = refl; shallow = omega arith }
 task_plain (delay time) = record { floatless = refl; shallow = omega arith }
 
-ask_plain : (ask : AskTold) → IsPlain 1 (ask_data ask)
+pub ask_plain : (ask : AskTold) → IsPlain 1 (ask_data ask)
 ask_plain (sets name text) = record { floatless = refl; shallow = omega arith }
 ask_plain (removes name) = record { floatless = refl; shallow = omega arith }
 ask_plain (loads text) = record { floatless = refl; shallow = omega arith }
@@ -51,7 +51,7 @@ pass_plain (Act stamp term task) =
     let bound = plain.shallow in
     record { floatless = ap (λ b. b || false) plain.floatless; shallow = omega (arith, bound) }
 
-reply_plain : (reply : ReplyTold) → IsPlain 2 (reply_data reply)
+pub reply_plain : (reply : ReplyTold) → IsPlain 2 (reply_data reply)
 reply_plain (was_set stamp) = record { floatless = refl; shallow = omega arith }
 reply_plain (was_removed stamp) = record { floatless = refl; shallow = omega arith }
 reply_plain (was_loaded entries) = record { floatless = refl; shallow = omega arith }
@@ -73,7 +73,7 @@ counts_plain (word ∷ words) =
     let bound = plain.shallow in
     record { floatless = plain.floatless; shallow = omega (arith, bound) }
 
-words_plain : (words : List ℕ) → IsPlain 1 (words_data words)
+pub words_plain : (words : List ℕ) → IsPlain 1 (words_data words)
 words_plain words =
     let plain = counts_plain words in
     let bound = plain.shallow in

@@ -1,5 +1,6 @@
 -- What holds of all that the code's values tell: their numbers fit their types.
 use Rattle.std.specs.Prelude.{ℕ, ◌<◌, ◌^◌, List, All, IfSome}
+use Rattle.actions.specs.Value.{TaskValue, sleep, delay}
 use Rattle.hex.specs.Hex.{IsBytes}
 use Rattle.stamp_register.specs.declared.key.Stamp.{Stamp}
 use Rattle.node_calls.specs.Told.{AskTold, sets, removes, loads, passes, shifts, grants, emits, delivers, ReplyTold, was_set, was_removed, was_loaded, was_passed, was_shifted, was_granted, was_emitted, was_delivered, Told, Passed, Unset, NoTerm, Act}
@@ -18,10 +19,16 @@ AskFits (grants name term amount) = (term < 2 ^ 8) × (amount < 2 ^ 64)
 AskFits (emits to) = to < 2 ^ 8
 AskFits (delivers bytes) = IsBytes bytes
 
+-- a time of a task
+abbrev pub TaskFits : TaskValue → Type 0
+TaskFits (sleep time) = time < 2 ^ 64
+TaskFits (delay time) = time < 2 ^ 64
+TaskFits _ = Unit {0}
+
 abbrev pub PassFits : Passed → Type 0
 PassFits Unset = Unit {0}
 PassFits (NoTerm stamp) = StampFits stamp
-PassFits (Act stamp term task) = StampFits stamp × (term < 2 ^ 8)
+PassFits (Act stamp term task) = StampFits stamp × (term < 2 ^ 8) × TaskFits task
 
 abbrev pub ReplyFits : ReplyTold → Type 0
 ReplyFits (was_set stamp) = StampFits stamp

@@ -1,6 +1,6 @@
 -- The lines of a recorded drill.
 use Rattle.std.specs.Prelude.{ℕ, Bool, true, false, List, codes, string_bytes, Option, Some, None}
-use Rattle.serde_json.specs.Data.{Data, string, object, Members, member, no_members, put}
+use Rattle.serde_json.specs.Data.{Data, string, object, member, no_members}
 use Rattle.serde_json.specs.Written.{compact_text}
 use Rattle.node_calls.specs.declared.receipt.Receipt.{Receipt}
 use Rattle.node_calls.specs.Told.{Told, told}
@@ -47,12 +47,6 @@ line_told (lines.Entry e) = entry (told e)
 line_told (lines.List number from) = list number from
 line_told (lines.Receipt r) = receipt (receipt_told r)
 line_told (lines.Part h) = part_head (head_told h)
-
--- what an entry tells, put into an object
-abbrev pub with_told : Told → Members → Members
-with_told e ms =
-    put (codes "words") (words_data e.words)
-    (put (codes "reply") (reply_data e.reply) (put (codes "ask") (ask_data e.ask) ms))
 
 -- the version of a drill, in which traces and lists may come in pieces or not
 abbrev pub version_of : Bool → ℕ

@@ -3,7 +3,9 @@ use Rattle.std.specs.Prelude.{ℕ, true, false, List, [], ◌∷◌, map, codes,
 use Rattle.std.specs.Option.{option_map_or}
 use Rattle.hex.specs.Hex.{encode_lower}
 use Rattle.serde_json.specs.Data.{Data, null, number, string, array, unsigned}
-use Rattle.serde_json.specs.View.{items_of}
+use Rattle.serde_json.specs.View.{items_of, view}
+use Rattle.drills.specs.declared.json_rows.Row.{Row}
+use Rattle.drills.specs.declared.json_rows.Row.TheVariants as rows
 use Rattle.actions.specs.Value.{TaskValue, off, «return», sleep, panic, print, pause, yield, delay}
 use Rattle.node_calls.specs.Told.{AskTold, sets, removes, loads, passes, shifts, grants, emits, delivers, ReplyTold, was_set, was_removed, was_loaded, was_passed, was_shifted, was_granted, was_emitted, was_delivered, Passed, Unset, NoTerm, Act}
 
@@ -67,3 +69,9 @@ reply_data (was_granted total) = row (codes "granted") (count_data total ∷ [])
 reply_data (was_emitted bytes) = row (codes "message") (bytes_data bytes ∷ [])
 reply_data (was_delivered true) = row (codes "changed") []
 reply_data (was_delivered false) = row (codes "same") []
+
+-- a row of the code, of which the bytes of a message still lie where they lay
+abbrev pub row_data : Row → Data
+row_data (rows.Value value) = view value
+row_data (rows.Deliver bytes) = ask_data (delivers bytes.now)
+row_data (rows.Message bytes) = reply_data (was_emitted bytes.now)

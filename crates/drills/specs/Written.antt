@@ -1,5 +1,6 @@
 -- What is written of a recorded drill, and that it reads back.
 use Rattle.std.specs.Prelude.{◌≡◌, ℕ, ◌≤◌, Bool, IsUtf8, false, ◌==◌, ◌||◌, List, [], ◌∷◌, All, flat_map, Option, Some}
+use Rattle.std.specs.Io.KnownBytes.{Appends}
 use Rattle.streams.specs.Streams.{Writes}
 use Rattle.streams.specs.declared.watched.Watched.{Watched}
 use Rattle.serde_json.specs.Data.{Data, depth}
@@ -26,6 +27,17 @@ pub record IsPrinted (d : Data) (text : List ℕ) : Type 0 where
 
 abbrev pub SaysLine : List ℕ → LineTold → Type 0
 SaysLine text line = (text ≡ line_text line) × ReadsBack line
+
+-- a value was written as JSON without spaces
+abbrev pub WritesData : {W : Type 0} → (W → Option (List ℕ)) → W → W → Data → Type 0
+WritesData contents old new d = Appends (contents old) (contents new) (compact_text d) × IsUtf8 (compact_text d)
+
+-- a line was written that reads back; and with the newline that ends it
+abbrev pub WritesLine : {W : Type 0} → (W → Option (List ℕ)) → W → W → LineTold → Type 0
+WritesLine contents old new line = Appends (contents old) (contents new) (line_text line) × ReadsBack line
+
+abbrev pub AddsLine : {W : Type 0} → (W → Option (List ℕ)) → W → W → LineTold → Type 0
+AddsLine contents old new line = Appends (contents old) (contents new) (ended line) × ReadsBack line
 
 -- lines that read back were written
 abbrev pub WritesLines : {W : Type 0} → (W → Option (List ℕ)) → Watched W → Watched W → List LineTold → Type 0

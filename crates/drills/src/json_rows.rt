@@ -1,14 +1,14 @@
 //! What a call tells as JSON.
 
-ghost use Rattle.std.specs.Prelude.{◌≡◌, ◌∷◌, ◌++◌, [], map, option_map, codes, string_bytes, true, false, IfOk, OnOk};
+ghost use Rattle.std.specs.Prelude.{◌≡◌, ◌∷◌, ◌++◌, [], map, option_map, string_bytes, IfOk, OnOk};
 ghost use Rattle.serde_json.specs.Data.{string};
 ghost use Rattle.serde_json.specs.View.{view};
 ghost use Rattle.actions.specs.Value.{task_value};
 ghost use Rattle.node_calls.specs.Told.{ask_ref_told, grants, reply_ref_told, sets, shifts, Act};
-ghost use Rattle.node_calls.specs.Told.{passed_ref};
+ghost use Rattle.node_calls.specs.Told.{delivers, passed_ref, was_emitted};
 ghost use Rattle.hex.specs.Hex.{IsBytes};
-ghost use Rattle.drills.specs.Fits.{AskFits, PassFits, ReplyFits, StampFits, WordsFit};
-ghost use Rattle.drills.specs.Rows.{bytes_data, text_data, count_data, row, words_data, task_data};
+ghost use Rattle.drills.specs.Fits.{AskFits, PassFits, ReplyFits, StampFits, TaskFits, WordsFit};
+ghost use Rattle.drills.specs.Rows.{text_data, count_data, row, row_data, words_data, task_data};
 ghost use Rattle.drills.specs.Rows.{ask_data, pass_data, reply_data, list_data};
 
 use actions::Task;
@@ -16,6 +16,32 @@ use node_calls::{AskRef, PassReplyRef, ReplyRef};
 use serde_json::Value;
 use stamp_register::Stamp;
 use std::alloc::{AllocError, Global};
+
+/// What a call tells as JSON: a value, or a row of a word and the bytes of a message, in hexadecimal.
+#[derive(Drop)]
+pub(crate) enum Row<'a> {
+    Value(Value),
+    Deliver(&'a [u8]),
+    Message(&'a [u8]),
+}
+
+impl<'a> Row<'a> {
+    // The row of a delivery.
+    fn delivered(message: &'a [u8]) -> Row<'a>
+        ensures row { row_data result ≡ ask_data (delivers message.now) }
+        ensures fits { IsBytes message.now }
+    {
+        Row::Deliver(message)
+    }
+
+    // The row of the reply to an emit.
+    fn emitted(message: &'a [u8]) -> Row<'a>
+        ensures row { row_data result ≡ reply_data (was_emitted message.now) }
+        ensures fits { IsBytes message.now }
+    {
+        Row::Message(message)
+    }
+}
 
 // Puts texts behind what stands in a row.
 fn push_texts(alloc: Global, row: &mut Vec<Value>, texts: &[&str]) -> Result<(), AllocError>
@@ -80,16 +106,6 @@ fn with_text(alloc: Global, word: &str, text: &str) -> Result<Value, AllocError>
     Ok(Value::Array(row_of(alloc, &[word, text], &[])?))
 }
 
-// A word with bytes, in hexadecimal.
-fn with_bytes(alloc: Global, word: &str, bytes: &[u8]) -> Result<Value, AllocError>
-    ensures value { IfOk result (λ value. view value
-        ≡ row word.now (bytes_data bytes.now ∷ [])) }
-    ensures fits { OnOk result (IsBytes bytes.now) }
-{
-    let text = hex::encode(alloc, bytes)?;
-    with_text(alloc, word, &text)
-}
-
 // A text, or null where there is none.
 fn text_value(alloc: Global, text: &Option<String>) -> Result<Value, AllocError>
     ensures { IfOk result
@@ -111,7 +127,8 @@ fn texted(alloc: Global, word: &str, text: &Option<String>) -> Result<Value, All
 }
 
 fn task_value(alloc: Global, task: &Task) -> Result<Value, AllocError>
-    ensures { IfOk result (λ value. view value ≡ task_data (task_value task.now)) }
+    ensures value { IfOk result (λ value. view value ≡ task_data (task_value task.now)) }
+    ensures fits { OnOk result (TaskFits (task_value task.now)) }
 {
     match task {
         Task::Off => alone(alloc, "off"),
@@ -152,25 +169,25 @@ fn grant_value(alloc: Global, name: &str, term: u8, amount: u64) -> Result<Value
 }
 
 /// What was asked.
-pub(crate) fn ask_value(alloc: Global, ask: AskRef<'_>) -> Result<Value, AllocError>
-    ensures value { IfOk result (λ value. view value ≡ ask_data (ask_ref_told ask.entry)) }
+pub(crate) fn ask_row(alloc: Global, ask: AskRef<'_>) -> Result<Row<'_>, AllocError>
+    ensures row { IfOk result (λ row. row_data row ≡ ask_data (ask_ref_told ask.entry)) }
     ensures fits { OnOk result (AskFits (ask_ref_told ask.entry)) }
 {
-    match ask {
-        AskRef::Set { name, text } => set_value(alloc, name, text),
-        AskRef::Remove { name } => with_text(alloc, "remove", name),
-        AskRef::Load { text } => with_text(alloc, "load", text),
-        AskRef::Pass { name } => with_text(alloc, "pass", name),
+    Ok(match ask {
+        AskRef::Set { name, text } => Row::Value(set_value(alloc, name, text)?),
+        AskRef::Remove { name } => Row::Value(with_text(alloc, "remove", name)?),
+        AskRef::Load { text } => Row::Value(with_text(alloc, "load", text)?),
+        AskRef::Pass { name } => Row::Value(with_text(alloc, "pass", name)?),
         AskRef::Shift {
             name,
             term,
             to,
             amount,
-        } => shift_value(alloc, name, term, to, amount),
-        AskRef::Grant { name, term, amount } => grant_value(alloc, name, term, amount),
-        AskRef::Emit { to } => counted(alloc, "emit", u64::from(to)),
-        AskRef::Deliver { message } => with_bytes(alloc, "deliver", message),
-    }
+        } => Row::Value(shift_value(alloc, name, term, to, amount)?),
+        AskRef::Grant { name, term, amount } => Row::Value(grant_value(alloc, name, term, amount)?),
+        AskRef::Emit { to } => Row::Value(counted(alloc, "emit", u64::from(to))?),
+        AskRef::Deliver { message } => Row::delivered(message),
+    })
 }
 
 // A word with a stamp: its clock and its node.
@@ -186,7 +203,7 @@ fn stamped(alloc: Global, word: &str, stamp: Stamp) -> Result<Value, AllocError>
 fn act_value(alloc: Global, term: u8, stamp: Stamp, task: &Task) -> Result<Value, AllocError>
     ensures value { IfOk result
         (λ value. view value ≡ pass_data (Act stamp term (task_value task.now))) }
-    ensures fits { OnOk result (StampFits stamp) }
+    ensures fits { OnOk result (PassFits (Act stamp term (task_value task.now))) }
 {
     let task = task_value(alloc, task)?;
     let counts = [stamp.clock, u64::from(stamp.node), u64::from(term)];
@@ -205,21 +222,21 @@ fn pass_value(alloc: Global, reply: PassReplyRef<'_>) -> Result<Value, AllocErro
 }
 
 /// What was answered.
-pub(crate) fn reply_value(alloc: Global, reply: ReplyRef<'_>) -> Result<Value, AllocError>
-    ensures value { IfOk result (λ value. view value ≡ reply_data (reply_ref_told reply.entry)) }
+pub(crate) fn reply_row(alloc: Global, reply: ReplyRef<'_>) -> Result<Row<'_>, AllocError>
+    ensures row { IfOk result (λ row. row_data row ≡ reply_data (reply_ref_told reply.entry)) }
     ensures fits { OnOk result (ReplyFits (reply_ref_told reply.entry)) }
 {
-    match reply {
-        ReplyRef::Set(stamp) => stamped(alloc, "set", stamp),
-        ReplyRef::Remove(stamp) => stamped(alloc, "removed", stamp),
-        ReplyRef::Load(entries) => counted(alloc, "loaded", u64::from(entries)),
-        ReplyRef::Pass(reply) => pass_value(alloc, reply),
-        ReplyRef::Shift(total) => counted(alloc, "shifted", total),
-        ReplyRef::Grant(total) => counted(alloc, "granted", total),
-        ReplyRef::Emit(message) => with_bytes(alloc, "message", message),
-        ReplyRef::Deliver(true) => alone(alloc, "changed"),
-        ReplyRef::Deliver(false) => alone(alloc, "same"),
-    }
+    Ok(match reply {
+        ReplyRef::Set(stamp) => Row::Value(stamped(alloc, "set", stamp)?),
+        ReplyRef::Remove(stamp) => Row::Value(stamped(alloc, "removed", stamp)?),
+        ReplyRef::Load(entries) => Row::Value(counted(alloc, "loaded", u64::from(entries))?),
+        ReplyRef::Pass(reply) => Row::Value(pass_value(alloc, reply)?),
+        ReplyRef::Shift(total) => Row::Value(counted(alloc, "shifted", total)?),
+        ReplyRef::Grant(total) => Row::Value(counted(alloc, "granted", total)?),
+        ReplyRef::Emit(message) => Row::emitted(message),
+        ReplyRef::Deliver(true) => Row::Value(alone(alloc, "changed")?),
+        ReplyRef::Deliver(false) => Row::Value(alone(alloc, "same")?),
+    })
 }
 
 // Adds a word behind the others.

@@ -3,6 +3,7 @@
 //! What is written reads back as the same.
 #![tactic(auto)]
 
+mod call_line;
 mod drill;
 mod fault;
 mod join_fault;
@@ -18,12 +19,13 @@ mod rows;
 mod so_far;
 mod writer;
 
+pub use call_line::{entry_text, write_entry};
 pub use drill::Drill;
 pub use fault::DrillFault;
 pub use join_fault::JoinFault;
 pub use joining::joined;
 pub use line::{entry_in, part_head_in};
-pub use line_text::{entry_text, part_head_text};
+pub use line_text::part_head_text;
 pub use part::{Part, PartHead};
 pub use part_reader::read_part;
 pub use reader::read_drill;

@@ -3,23 +3,14 @@
 ghost use Rattle.std.specs.Prelude.{◌≡◌, false, IfOk, None, OnOk, string_bytes};
 ghost use Rattle.serde_json.specs.Data.{put, string};
 ghost use Rattle.serde_json.specs.View.{members_view, view};
-ghost use Rattle.packed_trace.specs.Packed.{seen_told};
-ghost use Rattle.drills.specs.Fits.{LineFits, ToldFits, WordsFit};
-ghost use Rattle.drills.specs.Lines.{entry as entry_line, head as head_line, line_data};
-ghost use Rattle.drills.specs.Lines.{list as list_line, receipt as receipt_line, receipt_told};
-ghost use Rattle.drills.specs.Lines.{trace as trace_line, with_told, head_told, part_head};
-ghost use Rattle.drills.specs.Rows.{words_data};
+ghost use Rattle.drills.specs.Fits.{LineFits};
+ghost use Rattle.drills.specs.Lines.{head as head_line, head_told, line_data, list as list_line};
+ghost use Rattle.drills.specs.Lines.{part_head, trace as trace_line};
 ghost use Rattle.drills.specs.Written.{IsPrinted, SaysLine};
 
-use crate::json_rows::{ask_value, reply_value, words_value};
 use crate::part::PartHead;
-use node_calls::Receipt;
-use packed_trace::Seen;
 use serde_json::{Map, Value, json};
 use std::alloc::{AllocError, Global};
-
-// The greatest index that a line may have.
-const MAX_INDEX: u64 = 4_294_967_295;
 
 fn head_value(alloc: Global) -> Result<Value, AllocError>
     ensures { IfOk result (λ value. view value ≡ line_data (head_line false)) }
@@ -70,61 +61,6 @@ fn with_text(
     with_member(alloc, members, name, Value::String(text))
 }
 
-// The random draws of a call.
-fn draws_value(alloc: Global, call: Seen<'_>) -> Result<Value, AllocError>
-    ensures value { IfOk result
-        (λ value. view value ≡ words_data (seen_told call.entry).words) }
-    ensures fits { OnOk result (WordsFit (seen_told call.entry).words) }
-{
-    match call {
-        Seen::Pass { word, .. } => words_value(alloc, word.as_slice()),
-        Seen::Entry(entry) => words_value(alloc, &entry.words),
-    }
-}
-
-// An object with what a call tells.
-fn with_told(
-    alloc: Global,
-    members: Map<String, Value>,
-    call: Seen<'_>,
-) -> Result<Map<String, Value>, AllocError>
-    ensures members { IfOk result (λ all. members_view all.entries
-        ≡ with_told (seen_told call.entry) (members_view members.entries)) }
-    ensures fits { OnOk result (ToldFits (seen_told call.entry)) }
-{
-    let ask = ask_value(alloc, call.ask())?;
-    let members = with_member(alloc, members, "ask", ask)?;
-    let reply = reply_value(alloc, call.reply())?;
-    let members = with_member(alloc, members, "reply", reply)?;
-    let words = draws_value(alloc, call)?;
-    with_member(alloc, members, "words", words)
-}
-
-fn call_value(alloc: Global, call: Seen<'_>) -> Result<Value, AllocError>
-    ensures value { IfOk result
-        (λ value. view value ≡ line_data (entry_line (seen_told call.entry))) }
-    ensures fits { OnOk result (LineFits (entry_line (seen_told call.entry))) }
-{
-    let members = with_told(alloc, Map::new(alloc), call)?;
-    Ok(Value::Object(members))
-}
-
-fn receipt_value(alloc: Global, receipt: &Receipt) -> Result<Value, AllocError>
-    ensures value { IfOk result
-        (λ value. view value ≡ line_data (receipt_line (receipt_told receipt.now))) }
-    ensures fits { OnOk result (LineFits (receipt_line (receipt_told receipt.now))) }
-{
-    let Receipt { node, index, entry } = receipt;
-    // No line has a greater number.
-    if *index > MAX_INDEX {
-        return Err(AllocError);
-    }
-    let members = with_told(alloc, Map::new(alloc), Seen::Entry(entry))?;
-    let members = with_member(alloc, members, "index", Value::from(*index))?;
-    let members = with_member(alloc, members, "node", Value::from(*node))?;
-    Ok(Value::Object(members))
-}
-
 fn part_head_value(alloc: Global, head: &PartHead) -> Result<Value, AllocError>
     ensures value { IfOk result
         (λ value. view value ≡ line_data (part_head (head_told head.now))) }
@@ -168,30 +104,11 @@ pub(crate) fn trace_text(alloc: Global, node: u64) -> Result<String, AllocError>
     printed(alloc, &value)
 }
 
-/// The line of a call of a trace, without the newline that ends it. It reads back as what the call
-/// tells. The only error is out of memory.
-pub fn entry_text(alloc: Global, call: Seen<'_>) -> Result<String, AllocError>
-    ensures { IfOk result
-        (λ text. SaysLine (string_bytes text) (entry_line (seen_told call.entry))) }
-{
-    let value = call_value(alloc, call)?;
-    printed(alloc, &value)
-}
-
 /// The line with which a list of receipts begins.
 pub(crate) fn list_text(alloc: Global, number: u64) -> Result<String, AllocError>
     ensures { IfOk result (λ text. SaysLine (string_bytes text) (list_line number None)) }
 {
     let value = list_value(alloc, number)?;
-    printed(alloc, &value)
-}
-
-/// A receipt's line.
-pub(crate) fn receipt_text(alloc: Global, receipt: &Receipt) -> Result<String, AllocError>
-    ensures { IfOk result
-        (λ text. SaysLine (string_bytes text) (receipt_line (receipt_told receipt.now))) }
-{
-    let value = receipt_value(alloc, receipt)?;
     printed(alloc, &value)
 }
 

@@ -1,6 +1,6 @@
 //! A recorded drill, and a part, to a writer.
 
-ghost use Rattle.std.specs.Prelude.{◌≡◌, ◌++◌, ◌∷◌, [], ◌↔◌, ◌⊎◌, true, false, map, string_bytes, IfErr, OnOk, Ok, Err};
+ghost use Rattle.std.specs.Prelude.{◌≡◌, ◌++◌, ◌∷◌, [], ◌↔◌, ◌⊎◌, true, false, map, string_bytes, IfErr, IsOk, OnOk, Ok, Err};
 ghost use Rattle.streams.specs.Watched.{has_failed, has_unflushed};
 ghost use Rattle.streams.specs.Streams.{Writes};
 ghost use Rattle.drills.specs.declared.fault.DrillFault.TheVariants.{OutOfMemory, WriteFailed};
@@ -10,14 +10,14 @@ ghost use Rattle.drills.specs.Drills.{newline, numbered, trace_lines, traces_tol
 ghost use Rattle.drills.specs.Parts.{CanBeRead, part_in, part_text, whole_part};
 ghost use Rattle.drills.specs.Written.{WritesLines};
 
+use crate::call_line::{write_entry, write_receipt};
 use crate::fault::DrillFault;
-use crate::line_text::{
-    entry_text, head_text, list_text, part_head_text, receipt_text, trace_text,
-};
+use crate::line_text::{head_text, list_text, part_head_text, trace_text};
 use crate::part::PartHead;
 use node_calls::Receipt;
 use packed_trace::Trace;
 use std::alloc::Global;
+use std::io;
 use std::io::Write;
 use streams::Watched;
 
@@ -36,7 +36,22 @@ fn write_line<W: Write>(writer: &mut Watched<W>, mut text: String) -> Result<(),
     }
 }
 
-// Writes the calls of a trace, each where it lies.
+// What came of a line that was written: if the writer failed, that.
+fn written<W: Write>(writer: &Watched<W>, came: io::Result<()>) -> Result<(), DrillFault>
+    ensures came { OnOk result (IsOk came) }
+    ensures write_failed { (result ≡ Err WriteFailed) ↔ (has_failed writer.now ≡ true) }
+    ensures only { IfErr result (λ fault. (fault ≡ WriteFailed) ⊎ (fault ≡ OutOfMemory)) }
+{
+    if writer.failed() {
+        return Err(DrillFault::WriteFailed);
+    }
+    match came {
+        Ok(()) => Ok(()),
+        Err(_) => Err(DrillFault::OutOfMemory),
+    }
+}
+
+// Writes the calls of a trace, each from where it lies.
 fn write_calls<W: Write>(
     alloc: Global,
     trace: &Trace,
@@ -50,7 +65,8 @@ fn write_calls<W: Write>(
 {
     for index in 0..trace.len() {
         if let Some(call) = trace.at(index) {
-            write_line(writer, entry_text(alloc, call)?)?;
+            let came = write_entry(alloc, call, writer);
+            written(writer, came)?;
         }
     }
     Ok(())
@@ -86,7 +102,8 @@ fn write_receipts<W: Write>(
     ensures only { IfErr result (λ fault. (fault ≡ WriteFailed) ⊎ (fault ≡ OutOfMemory)) }
 {
     for receipt in list {
-        write_line(writer, receipt_text(alloc, receipt)?)?;
+        let came = write_receipt(alloc, receipt, writer);
+        written(writer, came)?;
     }
     Ok(())
 }

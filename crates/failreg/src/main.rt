@@ -7,7 +7,7 @@ ghost use Rattle.node_steps.specs.Refusals.{is_bad_config};
 ghost use Rattle.node_service.specs.Caps.{cap_of};
 ghost use Rattle.streams.specs.Watched.{has_failed};
 ghost use Rattle.commands.specs.Statuses.{HasStatus, OnStatus};
-ghost use Rattle.failreg.specs.Runs.{IsDone, MayEnd, wants_objects};
+ghost use Rattle.failreg.specs.Runs.{IsDone, MayEnd};
 
 mod advice;
 mod finish;
@@ -19,7 +19,7 @@ use advice::advice_on_service;
 use command_line::{
     AuditOptions, Invocation, PartOptions, PictureOptions, ServeOptions, read_command_line,
 };
-use commands::{audit, check, draw_drill, explain_codes, finish_objects, parse, say, sim};
+use commands::{audit, check, draw_drill, explain_codes, parse, sim};
 use finish::{finish_serve, finish_unread, finish_unreadable};
 use node_service::{ServiceFault, serve_node, serve_recorded};
 use part_advice::advice_on_recorded;
@@ -52,34 +52,7 @@ fn main(rt: HostRuntime) -> anyhow::Result<ExitCode> {
     };
     let mut writer = Watched::new(io::writer(&rt));
     let mut errors = Watched::new(rt.stderr());
-    if !wants_objects(&invocation) {
-        return run(&rt, invocation, &mut writer, &mut errors);
-    }
-    let mut answers = Vec::new(alloc);
-    let mut said = Vec::new(alloc);
-    let ended = run(
-        &rt,
-        invocation,
-        &mut Watched::new(&mut answers),
-        &mut Watched::new(&mut said),
-    )?;
-    say(&mut errors, &said);
-    finish_objects(&rt, ended, &answers, &said, &mut writer)
-}
-
-// Whether answers are to be written as objects of JSON.
-fn wants_objects(invocation: &Invocation<'_>) -> bool
-    ensures { result ≡ wants_objects invocation.now }
-{
-    match invocation {
-        Invocation::Sim(options) => options.json,
-        Invocation::Threads(options) => options.json,
-        Invocation::Audit(options) => options.json,
-        Invocation::Parse(_)
-        | Invocation::Picture(_)
-        | Invocation::Serve(..)
-        | Invocation::Explain(_) => false,
-    }
+    run(&rt, invocation, &mut writer, &mut errors)
 }
 
 // Does what a command line asks for.
@@ -113,14 +86,14 @@ where
     match invocation {
         Invocation::Parse(text) => parse(rt, text),
         Invocation::Sim(options) if options.check => {
-            check(rt, options.echo, &mut reader, writer, errors)
+            check(rt, options, &mut reader, writer, errors)
         }
         Invocation::Sim(options) => sim(rt, options, &mut reader, writer, errors),
         Invocation::Threads(options) if options.check => {
             check_threads(rt, options, &mut reader, writer, errors)
         }
         Invocation::Threads(options) => threads(rt, options, &mut reader, writer, errors),
-        Invocation::Audit(AuditOptions { files, .. }) => audit(rt, &files, writer),
+        Invocation::Audit(AuditOptions { files, json }) => audit(rt, &files, json, writer),
         Invocation::Picture(PictureOptions { files, text }) => draw_drill(rt, &files, text, writer),
         Invocation::Serve(options, part) => serve(rt, options, part),
         Invocation::Explain(text) => explain_codes(rt, &text, writer, errors),

@@ -4,6 +4,7 @@
 
 mod answering;
 mod calls;
+mod cluster;
 mod keeping;
 mod pauses;
 mod readers;

@@ -5,7 +5,8 @@ ghost use Rattle.node_core.specs.Traces.{call_kept};
 ghost use Rattle.drills.specs.Reading.{entry_in as entry_read};
 ghost use Rattle.node_for_c.specs.Numbers.{closed, differs, no_entry, no_line, no_memory};
 ghost use Rattle.node_for_c.specs.Calls.{Both};
-ghost use Rattle.node_for_c.specs.Parts.{IsEntrySaid, IsHeadSaid, IsNoHead, IsOtherwise, IsRepeated};
+ghost use Rattle.node_for_c.specs.Parts.{AreLinesSaid, IsEntrySaid, IsHeadSaid, IsNoHead};
+ghost use Rattle.node_for_c.specs.Parts.{IsOtherwise, IsRepeated, LacksCall};
 
 use node_for_c::{CLOSED, DIFFERS, Node};
 use std::alloc::Global;
@@ -42,6 +43,25 @@ pub extern "C" fn failreg_entry(alloc: Global, node: &mut Node, index: u64) -> u
         return CLOSED;
     };
     let status = registry.say_entry(alloc, index);
+    *node = Node::of(registry);
+    status
+}
+
+/// Tells the lines of the accepted calls from a number on, counted from 0, each with the newline that ends
+/// it: they are then to be fetched. Answers 0, 34 where the node doesn't keep all of these calls, or has
+/// fewer, 22, or 31.
+#[unsafe(no_mangle)]
+pub extern "C" fn failreg_part_lines(alloc: Global, node: &mut Node, from: u64) -> u32
+    ensures text { result ≡ 0 → Both node.old.handle.kept node.new.handle.kept
+        (AreLinesSaid from) }
+    ensures refused { result ≢ 0 → MatchOption node.old.handle.kept (result ≡ closed) (λ k.
+        (result ≡ no_memory) ⊎ ((result ≡ no_entry) × LacksCall k.core from)) }
+    ensures same { result ≢ 0 → node.new.handle.kept ≡ node.old.handle.kept }
+{
+    let Some(mut registry) = node.take(alloc) else {
+        return CLOSED;
+    };
+    let status = registry.say_lines(alloc, from);
     *node = Node::of(registry);
     status
 }

@@ -19,7 +19,7 @@ use Rattle.gossip.specs.Carried.{AreHeard, AreTold, Carries, bytes_told, deliver
 use Rattle.gossip.specs.declared.report.Ended.TheVariants.{Done}
 use Rattle.gossip.specs.Carried.{Carried, others_in_rounds, nobody, sent_to, lost_to, refused_to, nothing, delivered, refused_it}
 use Rattle.gossip.specs.Refused.{failed_as, failure_of, is_counted, rejected_as, rejection_of}
-use Rattle.gossip.specs.Senders.{sender_of}
+use Rattle.gossip_pace.specs.Senders.{sender_of}
 use Rattle.gossip.specs.Steps.{Moves, Stops}
 use Rattle.gossip.specs.Traffic.{Traffic, sends}
 

@@ -1,13 +1,20 @@
 -- Peers that are looked at, one after the other.
-use Rattle.std.proofs.Common.{◌≡◌, ◌≤◌, ◌<◌, ℕ, ◌+◌, zero, suc, Bool, true, false, inl, inr, List, [], ◌∷◌, ◌++◌, length, map, take, drop, set, get_or, append_assoc, length-append, subst, ap, sym, ◌∙◌, refl, arith}
+use Rattle.std.proofs.Common.{◌≡◌, ◌≤◌, ◌<◌, ℕ, ◌+◌, zero, suc, Bool, true, false, inl, inr, List, [], ◌∷◌, ◌++◌, length, map, take, drop, set, get_or, append_assoc, length-append, slice_set, subst, ap, sym, ◌∙◌, refl, arith}
 use Rattle.std.proofs.lemmas.List.{map-append, append-nil}
+use Rattle.std.proofs.lemmas.Grind.{flat_map-append}
 use Rattle.node_steps.specs.declared.config.Config.{Config}
 use Rattle.node_calls.specs.Asks.{bare_emit}
 use Rattle.node_registry.specs.Seats.{SeatState}
-use Rattle.gossip.specs.declared.news.News.{News}
-use Rattle.gossip.specs.declared.news.Pace.{Pace}
+use Rattle.gossip_pace.specs.declared.news.News.{News}
+use Rattle.gossip_pace.specs.declared.news.Pace.{Pace}
+use Rattle.gossip.specs.Attempts.{IsWhy, Tries, failed_by, failed_in, no_attempts, with_tries}
+use Rattle.gossip.specs.declared.failures.Attempt.{Attempt}
+use Rattle.gossip.specs.declared.failures.Attempt.TheVariants.{Sent, Failed}
+use Rattle.gossip.specs.declared.failures.AttemptFault.{AttemptFault}
+use Rattle.gossip.specs.declared.failures.AttemptFault.TheVariants.{Unreached}
 use Rattle.gossip.specs.declared.report.GossipReport.{GossipReport}
-use Rattle.gossip.specs.News.{AreLooked, IsSeen, is_due, missed_pace, rested, told_pace, nobody, left_alone, not_reached, told_it, missed_it}
+use Rattle.gossip_pace.specs.News.{is_due, missed_pace, rested, told_pace}
+use Rattle.gossip.specs.News.{AreLooked, IsSeen, nobody, left_alone, not_reached, told_it, missed_it}
 use Rattle.gossip.specs.NewsRounds.{Breaks, IsEmpty, IsNewsBroken, IsNewsRound, Looks}
 use Rattle.gossip.specs.Reports.{IsTold, calls_of, tried_of}
 use Rattle.gossip.specs.Steps.{Adds, Moves, Stops}
@@ -15,15 +22,23 @@ use Rattle.gossip.specs.Traffic.{Traffic}
 use Rattle.gossip.proofs.CarryLemmas.{carries_of, moves_as, moves_nothing, moves_then, stops_as, stops_then}
 use Rattle.gossip.proofs.StepLemmas.{adds_as, adds_none, adds_then, part_of_all, told_of}
 
+tries_then : (ts us : Tries) (attempts : List Attempt) →
+    with_tries (ts ++ us) attempts ≡ with_tries us (with_tries ts attempts)
+tries_then [] us attempts = refl
+tries_then (t ∷ ts) us attempts = tries_then ts us (slice_set attempts t.0 t.1)
+
+failed_then : (ts us : Tries) → failed_in (ts ++ us) ≡ failed_in ts ++ failed_in us
+failed_then ts us = flat_map-append (λ (t : ℕ × Attempt). failed_by t.0 t.1) ts us
+
 looked_then : {config : Config} {seed : List ℕ} {since : ℕ} {says : ℕ → Bool → Type 0} {ps qs ps' qs' : List Pace}
-    {tos missed tos' missed' : List ℕ} →
-    AreLooked config seed since says ps qs tos missed → AreLooked config seed since says ps' qs' tos' missed' →
-    AreLooked config seed since says (ps ++ ps') (qs ++ qs') (tos ++ tos') (missed ++ missed')
+    {tos missed tos' missed' : List ℕ} {tries tries' : Tries} →
+    AreLooked config seed since says ps qs tos missed tries → AreLooked config seed since says ps' qs' tos' missed' tries' →
+    AreLooked config seed since says (ps ++ ps') (qs ++ qs') (tos ++ tos') (missed ++ missed') (tries ++ tries')
 looked_then nobody more = more
 looked_then (left_alone seen due rest) more = left_alone seen due (looked_then rest more)
 looked_then (not_reached seen due away rest) more = not_reached seen due away (looked_then rest more)
 looked_then (told_it seen due near rest) more = told_it seen due near (looked_then rest more)
-looked_then (missed_it seen due near rest) more = missed_it seen due near (looked_then rest more)
+looked_then (missed_it seen due near why rest) more = missed_it seen due near why (looked_then rest more)
 
 -- what was seen behind so many calls was seen behind fewer
 seen_since : (config : Config) (seed : List ℕ) (since later peer : ℕ) (n : News) → since ≤ later →
@@ -31,8 +46,8 @@ seen_since : (config : Config) (seed : List ℕ) (since later peer : ℕ) (n : N
 seen_since config seed since later peer n le seen = (seen.0, seen.1, (let long = seen.2 in omega (arith, le, long)), seen.3)
 
 looked_since : {config : Config} {seed : List ℕ} {since later : ℕ} {says : ℕ → Bool → Type 0} {ps qs : List Pace}
-    {tos missed : List ℕ} → since ≤ later → AreLooked config seed later says ps qs tos missed →
-    AreLooked config seed since says ps qs tos missed
+    {tos missed : List ℕ} {tries : Tries} → since ≤ later → AreLooked config seed later says ps qs tos missed tries →
+    AreLooked config seed since says ps qs tos missed tries
 looked_since le nobody = nobody
 looked_since le (left_alone seen due rest) =
     left_alone (seen_since _ _ _ _ _ _ le seen) due (looked_since le rest)
@@ -40,8 +55,8 @@ looked_since le (not_reached seen due away rest) =
     not_reached (seen_since _ _ _ _ _ _ le seen) due away (looked_since le rest)
 looked_since le (told_it seen due near rest) =
     told_it (seen_since _ _ _ _ _ _ le seen) due near (looked_since le rest)
-looked_since le (missed_it seen due near rest) =
-    missed_it (seen_since _ _ _ _ _ _ le seen) due near (looked_since le rest)
+looked_since le (missed_it seen due near why rest) =
+    missed_it (seen_since _ _ _ _ _ _ le seen) due near why (looked_since le rest)
 
 pub looks_since : {config : Config} {seed : List ℕ} {since later : ℕ} {says : ℕ → Bool → Type 0} {seat_was seat_now : SeatState}
     {was now : Traffic} {old new : GossipReport} {ps qs : List Pace} → since ≤ later →
@@ -50,7 +65,10 @@ pub looks_since : {config : Config} {seed : List ℕ} {since later : ℕ} {says 
 looks_since le p = record {
   tos = p.tos;
   missed = p.missed;
+  tries = p.tries;
   looked = looked_since le p.looked;
+  attempts = p.attempts;
+  failures = p.failures;
   adds = p.adds;
   moves = p.moves;
   tried = p.tried;
@@ -72,7 +90,10 @@ breaks_since le p = record {
   missed = p.missed;
   all = p.all;
   left = p.left;
+  tries = p.tries;
+  last = p.last;
   looked = looked_since le p.looked;
+  attempts = p.attempts;
   seen = seen_since _ _ _ _ _ _ le p.seen;
   due = p.due;
   reached = p.reached;
@@ -87,7 +108,10 @@ pub looks_nobody : (config : Config) (seed : List ℕ) (since : ℕ) (says : ℕ
 looks_nobody config seed since says seat now report = record {
   tos = [];
   missed = [];
+  tries = [];
   looked = nobody;
+  attempts = refl;
+  failures = sym (append-nil report.failed.items);
   adds = adds_none _ _ _ _ _ _ _ refl refl refl refl refl refl refl refl;
   moves = moves_nothing refl refl refl refl refl refl;
   tried = omega arith;
@@ -100,10 +124,13 @@ pub looks_away : {config : Config} {seed : List ℕ} {since : ℕ} {says : ℕ �
     {report : GossipReport} (p after : Pace)
     (n : News) → IsSeen config seed since p.node n → is_due p n ≡ false → after ≡ rested p →
     Looks config seed since says seat seat now now report report (p ∷ []) (after ∷ [])
-looks_away {config = config} {seed = seed} {since = since} {says = says} p after n seen due is = record {
+looks_away {config = config} {seed = seed} {since = since} {says = says} {report = report} p after n seen due is = record {
   tos = [];
   missed = [];
-  looked = subst (λ q. AreLooked config seed since says (p ∷ []) (q ∷ []) [] []) (sym is) (left_alone seen due nobody);
+  tries = [];
+  looked = subst (λ q. AreLooked config seed since says (p ∷ []) (q ∷ []) [] [] []) (sym is) (left_alone seen due nobody);
+  attempts = refl;
+  failures = sym (append-nil report.failed.items);
   adds = adds_none _ _ _ _ _ _ _ refl refl refl refl refl refl refl refl;
   moves = moves_nothing refl refl refl refl refl refl;
   tried = omega arith;
@@ -112,20 +139,28 @@ looks_away {config = config} {seed = seed} {since = since} {says = says} p after
 }
 
 pub looks_unreached : {config : Config} {seed : List ℕ} {since : ℕ} {says : ℕ → Bool → Type 0} {seat : SeatState} {was now : Traffic}
-    {report : GossipReport}
+    {old new : GossipReport}
     (p after : Pace) (n : News) → IsSeen config seed since p.node n → is_due p n ≡ true → says p.node false → now ≡ was →
-    after ≡ missed_pace p →
-    Looks config seed since says seat seat was now report report (p ∷ []) (after ∷ [])
-looks_unreached {config = config} {seed = seed} {since = since} {says = says} p after n seen due away same is = record {
-  tos = [];
-  missed = [];
-  looked = subst (λ q. AreLooked config seed since says (p ∷ []) (q ∷ []) [] []) (sym is) (not_reached seen due away nobody);
-  adds = adds_none _ _ _ _ _ _ _ refl refl refl refl refl refl refl refl;
-  moves = moves_nothing same refl refl refl refl refl;
-  tried = omega arith;
-  few = omega arith;
-  counted = omega arith;
-}
+    after ≡ missed_pace p → new.attempts ≡ slice_set old.attempts p.node (Failed Unreached) →
+    new.receipts.items ≡ old.receipts.items → new.emitted ≡ old.emitted → new.delivered ≡ old.delivered →
+    new.lost ≡ old.lost → new.refused ≡ old.refused → new.failed.items ≡ old.failed.items →
+    new.rejected.items ≡ old.rejected.items → new.noted ≡ old.noted → new.ended ≡ old.ended →
+    Looks config seed since says seat seat was now old new (p ∷ []) (after ∷ [])
+looks_unreached {config = config} {seed = seed} {since = since} {says = says} {old = old} p after n seen due away same is attempts
+    receipts emitted delivered lost refused failed rejected noted ended = record {
+      tos = [];
+      missed = [];
+      tries = (p.node, Failed Unreached) ∷ [];
+      looked = subst (λ q. AreLooked config seed since says (p ∷ []) (q ∷ []) [] [] ((p.node, Failed Unreached) ∷ []))
+          (sym is) (not_reached seen due away nobody);
+      attempts = attempts;
+      failures = failed ∙ sym (append-nil old.failed.items);
+      adds = adds_none _ _ _ _ _ _ _ refl receipts emitted delivered ended refused noted rejected;
+      moves = moves_nothing same receipts lost refused failed rejected;
+      tried = omega (arith, emitted, refused);
+      few = omega (arith, emitted, delivered, refused);
+      counted = omega (arith, lost, refused);
+    }
 
 -- from traffic that is the same
 pub looks_from : {config : Config} {seed : List ℕ} {since : ℕ} {says : ℕ → Bool → Type 0} {seat_was seat_now : SeatState}
@@ -154,13 +189,17 @@ pub looks_told : {config : Config} {seed : List ℕ} {since : ℕ} {says : ℕ �
     Moves config seed was now old new (p.node ∷ []) [] →
     tried_of old + 1 ≤ tried_of new → calls_of new ≤ calls_of old + 1 →
     new.lost + new.refused ≡ old.lost + old.refused →
+    new.attempts ≡ slice_set old.attempts p.node Sent → new.failed.items ≡ old.failed.items →
     Looks config seed since says seat_was seat_now was now old new (p ∷ []) (after ∷ [])
 looks_told {config = config} {seed = seed} {since = since}
-    {says = says} p after n seen due near is adds moves tried few counted = record {
+    {says = says} {old = old} p after n seen due near is adds moves tried few counted attempts failed = record {
       tos = p.node ∷ [];
       missed = [];
-      looked = subst (λ q. AreLooked config seed since says (p ∷ []) (q ∷ []) (p.node ∷ []) []) (sym is)
-          (told_it seen due near nobody);
+      tries = (p.node, Sent) ∷ [];
+      looked = subst (λ q. AreLooked config seed since says (p ∷ []) (q ∷ []) (p.node ∷ []) []
+          ((p.node, Sent) ∷ [])) (sym is) (told_it seen due near nobody);
+      attempts = attempts;
+      failures = failed ∙ sym (append-nil old.failed.items);
       adds = adds;
       moves = moves;
       tried = tried;
@@ -170,19 +209,24 @@ looks_told {config = config} {seed = seed} {since = since}
 
 pub looks_missed : {config : Config} {seed : List ℕ} {since : ℕ} {says : ℕ → Bool → Type 0} {seat_was seat_now : SeatState}
     {was now : Traffic} {old new : GossipReport}
-    (p after : Pace) (n : News) → IsSeen config seed since p.node n → is_due p n ≡ true → says p.node true →
-    after ≡ missed_pace p →
+    (p after : Pace) (n : News) (why : AttemptFault) → IsSeen config seed since p.node n → is_due p n ≡ true →
+    says p.node true → IsWhy config seed p.node why → after ≡ missed_pace p →
     Adds config seed seat_was seat_now old new (bare_emit p.node ∷ []) →
     Moves config seed was now old new (p.node ∷ []) [] →
     tried_of old + 1 ≤ tried_of new → calls_of new ≤ calls_of old + 1 →
     new.lost + new.refused ≡ old.lost + old.refused + 1 →
+    new.attempts ≡ slice_set old.attempts p.node (Failed why) →
+    new.failed.items ≡ old.failed.items ++ failed_by p.node (Failed why) →
     Looks config seed since says seat_was seat_now was now old new (p ∷ []) (after ∷ [])
 looks_missed {config = config} {seed = seed} {since = since}
-    {says = says} p after n seen due near is adds moves tried few counted = record {
+    {says = says} {old = old} p after n why seen due near is_why is adds moves tried few counted attempts failed = record {
       tos = p.node ∷ [];
       missed = p.node ∷ [];
-      looked = subst (λ q. AreLooked config seed since says (p ∷ []) (q ∷ []) (p.node ∷ []) (p.node ∷ [])) (sym is)
-          (missed_it seen due near nobody);
+      tries = (p.node, Failed why) ∷ [];
+      looked = subst (λ q. AreLooked config seed since says (p ∷ []) (q ∷ []) (p.node ∷ []) (p.node ∷ [])
+          ((p.node, Failed why) ∷ [])) (sym is) (missed_it seen due near is_why nobody);
+      attempts = attempts;
+      failures = failed ∙ ap (λ l. old.failed.items ++ l) (sym (append-nil (failed_by p.node (Failed why))));
       adds = adds;
       moves = moves;
       tried = tried;
@@ -196,8 +240,9 @@ pub breaks_now : {config : Config} {seed : List ℕ} {since : ℕ} {says : ℕ �
     (p : Pace) (n : News) → IsSeen config seed since p.node n → is_due p n ≡ true → says p.node true →
     Adds config seed seat_was seat_now old new (bare_emit p.node ∷ []) →
     Stops config seed was now old new (p.node ∷ []) →
+    (last : Tries) × (new.attempts ≡ with_tries last old.attempts) →
     Breaks config seed since says seat_was seat_now was now old new (p ∷ []) (p ∷ [])
-breaks_now p n seen due near adds stops = record {
+breaks_now p n seen due near adds stops attempts = record {
   first = [];
   after = [];
   next = p;
@@ -207,7 +252,10 @@ breaks_now p n seen due near adds stops = record {
   missed = [];
   all = refl;
   left = refl;
+  tries = [];
+  last = attempts.0;
   looked = nobody;
+  attempts = attempts.1;
   seen = seen;
   due = due;
   reached = near;
@@ -222,10 +270,15 @@ pub looks_then : {config : Config} {seed : List ℕ} {since : ℕ} {says : ℕ �
     Looks config seed since says seat_was between was amid old middle ps qs →
     Looks config seed since says between seat_now amid now middle new ps' qs' →
     Looks config seed since says seat_was seat_now was now old new (ps ++ ps') (qs ++ qs')
-looks_then {ps = ps} {ps' = ps'} p q = record {
+looks_then {old = old} {ps = ps} {ps' = ps'} p q = record {
   tos = p.tos ++ q.tos;
   missed = p.missed ++ q.missed;
+  tries = p.tries ++ q.tries;
   looked = looked_then p.looked q.looked;
+  attempts = q.attempts ∙ ap (with_tries q.tries) p.attempts ∙ sym (tries_then p.tries q.tries old.attempts);
+  failures = q.failures ∙ ap (λ l. l ++ failed_in q.tries) p.failures
+      ∙ append_assoc old.failed.items (failed_in p.tries) (failed_in q.tries)
+      ∙ ap (λ l. old.failed.items ++ l) (sym (failed_then p.tries q.tries));
   adds = adds_as (adds_then p.adds q.adds) (sym (map-append bare_emit p.tos q.tos));
   moves = moves_then p.moves q.moves;
   tried = omega (arith, p.tried, q.tried, length-append p.tos q.tos);
@@ -239,7 +292,7 @@ pub breaks_then : {config : Config} {seed : List ℕ} {since : ℕ} {says : ℕ 
     Looks config seed since says seat_was between was amid old middle ps qs →
     Breaks config seed since says between seat_now amid now middle new ps' qs' →
     Breaks config seed since says seat_was seat_now was now old new (ps ++ ps') (qs ++ qs')
-breaks_then {ps = ps} {qs = qs} p q = record {
+breaks_then {old = old} {ps = ps} {qs = qs} p q = record {
   first = ps ++ q.first;
   after = qs ++ q.after;
   next = q.next;
@@ -249,7 +302,12 @@ breaks_then {ps = ps} {qs = qs} p q = record {
   missed = p.missed ++ q.missed;
   all = ap (λ l. ps ++ l) q.all ∙ sym (append_assoc ps q.first (q.next ∷ q.rest));
   left = ap (λ l. qs ++ l) q.left ∙ sym (append_assoc qs q.after (q.next ∷ q.rest));
+  tries = p.tries ++ q.tries;
+  last = q.last;
   looked = looked_then p.looked q.looked;
+  attempts = q.attempts ∙ ap (with_tries (q.tries ++ q.last)) p.attempts
+      ∙ sym (tries_then p.tries (q.tries ++ q.last) old.attempts)
+      ∙ ap (λ l. with_tries l old.attempts) (sym (append_assoc p.tries q.tries q.last));
   seen = q.seen;
   due = q.due;
   reached = q.reached;
@@ -273,7 +331,10 @@ breaks_before p rest = record {
   missed = p.missed;
   all = ap (λ l. l ++ rest) p.all ∙ append_assoc p.first (p.next ∷ p.rest) rest;
   left = ap (λ l. l ++ rest) p.left ∙ append_assoc p.after (p.next ∷ p.rest) rest;
+  tries = p.tries;
+  last = p.last;
   looked = p.looked;
+  attempts = p.attempts;
   seen = p.seen;
   due = p.due;
   reached = p.reached;
@@ -395,11 +456,15 @@ pub news_round : {config : Config} {seed : List ℕ} {since : ℕ} {says : ℕ �
     Looks config seed since says seat_was between was amid old middle ps qs →
     Adds config seed between seat_now middle new [] →
     tried_of middle ≤ tried_of new → Moves config seed amid now middle new [] [] →
+    new.attempts ≡ middle.attempts → new.failed.items ≡ middle.failed.items →
     IsNewsRound config seed since says was now ps qs new
-news_round empty p adds tried moves = record {
+news_round empty p adds tried moves same failed = record {
   tos = p.tos;
   missed = p.missed;
+  tries = p.tries;
   looked = p.looked;
+  attempts = same ∙ p.attempts ∙ ap (with_tries p.tries) empty.attempts;
+  failures = failed ∙ p.failures ∙ ap (λ l. l ++ failed_in p.tries) empty.failed;
   asks = part_of_all (adds_as (adds_then p.adds adds) (append-nil (map bare_emit p.tos))) empty.receipts;
   tried = omega (arith, p.tried, tried);
   counted = omega (arith, p.counted, moves.lost_more, moves.refused_more);
@@ -432,7 +497,10 @@ news_broken empty p = record {
   left = p.stops.1;
   all = p.all;
   rest_stays = p.left;
+  tries = p.tries;
+  last = p.last;
   looked = p.looked;
+  attempts = p.attempts ∙ ap (with_tries (p.tries ++ p.last)) empty.attempts;
   next_due = inr (p.next, p.news, p.rest, refl, p.seen, p.due, p.reached, refl);
   asks = part_of_all p.adds empty.receipts;
   few_left = p.stops.3;
@@ -446,8 +514,9 @@ pub news_unheard : {config : Config} {seed : List ℕ} {since : ℕ} {says : ℕ
     {old middle new : GossipReport} {ps qs : List Pace} → IsEmpty old →
     Looks config seed since says seat_was between was amid old middle ps qs →
     Adds config seed between seat_now middle new [] →
-    Stops config seed amid now middle new [] → IsNewsBroken config seed since says was now ps qs new
-news_unheard {ps = ps} {qs = qs} empty p adds stops =
+    Stops config seed amid now middle new [] → new.attempts ≡ middle.attempts →
+    IsNewsBroken config seed since says was now ps qs new
+news_unheard {ps = ps} {qs = qs} empty p adds stops same =
     let all = stops_then p.moves stops in
     record {
       first = ps;
@@ -460,7 +529,11 @@ news_unheard {ps = ps} {qs = qs} empty p adds stops =
       left = all.1;
       all = sym (append-nil ps);
       rest_stays = sym (append-nil qs);
+      tries = p.tries;
+      last = [];
       looked = p.looked;
+      attempts = same ∙ p.attempts ∙ ap (with_tries p.tries) empty.attempts
+          ∙ ap (λ l. with_tries l no_attempts) (sym (append-nil p.tries));
       next_due = inl refl;
       asks = part_of_all (adds_as (adds_then p.adds adds) (sym (map-append bare_emit p.tos []))) empty.receipts;
       few_left = all.3;

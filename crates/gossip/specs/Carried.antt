@@ -15,7 +15,7 @@ use Rattle.gossip.specs.declared.failures.Rejected.{Rejected}
 use Rattle.gossip.specs.declared.report.GossipReport.{GossipReport}
 use Rattle.gossip.specs.declared.report.Ended.TheVariants.{Done}
 use Rattle.gossip.specs.Reports.{others_below}
-use Rattle.gossip.specs.Senders.{sender_of}
+use Rattle.gossip_pace.specs.Senders.{sender_of}
 use Rattle.gossip.specs.Traffic.{Traffic}
 
 -- the bytes of an emit, and those of a delivery

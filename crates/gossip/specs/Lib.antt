@@ -1,3 +1,4 @@
+pub mod Attempts
 pub mod Carried
 pub mod News
 pub mod NewsRounds
@@ -6,7 +7,6 @@ pub mod Mailboxes
 pub mod Parts
 pub mod Refused
 pub mod Reports
-pub mod Senders
 pub mod Spreads
 pub mod Steps
 pub mod Traffic

@@ -3,11 +3,13 @@ use Rattle.std.specs.Prelude.{◌≡◌, ◌⊎◌, ◌≤◌, ℕ, ◌+◌, Boo
 use Rattle.node_steps.specs.declared.config.Config.{Config}
 use Rattle.node_calls.specs.Asks.{bare_emit}
 use Rattle.node_registry.specs.Seats.{SeatState}
-use Rattle.gossip.specs.declared.news.News.{News}
-use Rattle.gossip.specs.declared.news.Pace.{Pace}
+use Rattle.gossip_pace.specs.declared.news.News.{News}
+use Rattle.gossip_pace.specs.declared.news.Pace.{Pace}
+use Rattle.gossip.specs.Attempts.{Tries, failed_in, no_attempts, with_tries}
 use Rattle.gossip.specs.declared.report.GossipReport.{GossipReport}
 use Rattle.gossip.specs.Carried.{Begins, Carries}
-use Rattle.gossip.specs.News.{AreLooked, IsSeen, is_due}
+use Rattle.gossip_pace.specs.News.{is_due}
+use Rattle.gossip.specs.News.{AreLooked, IsSeen}
 use Rattle.gossip.specs.Parts.{IsPartOf}
 use Rattle.gossip.specs.Reports.{calls_of, own_asks_in, tried_of}
 use Rattle.gossip.specs.Steps.{Adds, Moves, Stops}
@@ -22,6 +24,7 @@ pub record IsEmpty (r : GossipReport) : Type 0 where
   pub refused : r.refused ≡ 0
   pub noted : r.noted ≡ []
   pub failed : r.failed.items ≡ []
+  pub attempts : r.attempts ≡ no_attempts
   pub rejected : r.rejected.items ≡ []
 
 -- these peers were looked at, and what was told them is in the report
@@ -30,7 +33,10 @@ pub record Looks (config : Config) (seed : List ℕ) (since : ℕ) (says : ℕ �
     (ps qs : List Pace) : Type 0 where
   pub tos : List ℕ
   pub missed : List ℕ
-  pub looked : AreLooked config seed since says ps qs tos missed
+  pub tries : Tries
+  pub looked : AreLooked config seed since says ps qs tos missed tries
+  pub attempts : new.attempts ≡ with_tries tries old.attempts
+  pub failures : new.failed.items ≡ old.failed.items ++ failed_in tries
   pub adds : Adds config seed seat_was seat_now old new (map bare_emit tos)
   pub moves : Moves config seed was now old new tos []
   pub tried : tried_of old + length tos ≤ tried_of new
@@ -50,7 +56,10 @@ pub record Breaks (config : Config) (seed : List ℕ) (since : ℕ) (says : ℕ 
   pub missed : List ℕ
   pub all : ps ≡ first ++ next ∷ rest
   pub left : qs ≡ after ++ next ∷ rest
-  pub looked : AreLooked config seed since says first after tos missed
+  pub tries : Tries
+  pub last : Tries
+  pub looked : AreLooked config seed since says first after tos missed tries
+  pub attempts : new.attempts ≡ with_tries (tries ++ last) old.attempts
   pub seen : IsSeen config seed since next.node news
   pub due : is_due next news ≡ true
   pub reached : says next.node true
@@ -64,7 +73,10 @@ pub record IsNewsRound (config : Config) (seed : List ℕ) (since : ℕ) (says :
     Type 0 where
   pub tos : List ℕ
   pub missed : List ℕ
-  pub looked : AreLooked config seed since says ps qs tos missed
+  pub tries : Tries
+  pub looked : AreLooked config seed since says ps qs tos missed tries
+  pub attempts : r.attempts ≡ with_tries tries no_attempts
+  pub failures : r.failed.items ≡ failed_in tries
   pub asks : IsPartOf (own_asks_in config r.receipts.items) (map bare_emit tos)
   pub tried : length tos ≤ tried_of r
   pub counted : length missed ≤ r.lost + r.refused
@@ -86,7 +98,10 @@ pub record IsNewsBroken (config : Config) (seed : List ℕ) (since : ℕ) (says 
   pub left : List (List ℕ)
   pub all : ps ≡ first ++ rest
   pub rest_stays : qs ≡ after ++ rest
-  pub looked : AreLooked config seed since says first after tos missed
+  pub tries : Tries
+  pub last : Tries
+  pub looked : AreLooked config seed since says first after tos missed tries
+  pub attempts : r.attempts ≡ with_tries (tries ++ last) no_attempts
   pub next_due : (next ≡ []) ⊎ ((p : Pace) × (n : News) × (others : List Pace) × (rest ≡ p ∷ others)
       × IsSeen config seed since p.node n × (is_due p n ≡ true) × says p.node true × (next ≡ p.node ∷ []))
   pub asks : IsPartOf (own_asks_in config r.receipts.items) (map bare_emit (tos ++ next))

@@ -9,7 +9,7 @@ use Rattle.node_registry.specs.Refusals.{Refusal}
 use Rattle.gossip.specs.declared.failures.Failed.{Failed}
 use Rattle.gossip.specs.declared.failures.Rejected.{Rejected}
 use Rattle.gossip.specs.declared.wire.WireError.{WireError}
-use Rattle.gossip.specs.Senders.{sender_of}
+use Rattle.gossip_pace.specs.Senders.{sender_of}
 
 -- a refusal is counted, but for one as out of memory
 abbrev pub is_counted : NodeFault → Bool

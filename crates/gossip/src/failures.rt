@@ -1,7 +1,7 @@
 //! What of gossip went wrong.
 
 ghost use Rattle.std.specs.Prelude.{◌≡◌};
-ghost use Rattle.gossip.specs.Senders.{sender_of};
+ghost use Rattle.gossip.specs.Attempts.{attempt_by};
 
 use crate::wire::WireError;
 use node_core::NodeFault;
@@ -24,12 +24,36 @@ pub struct Failed {
     pub why: WireError,
 }
 
-/// Where the sender of a message stands in it.
-const SENDER_AT: usize = 4;
+/// Why a peer for which a message was due wasn't sent one.
+#[derive(Clone, Copy, Debug, PartialEq, Eq)]
+pub enum AttemptFault {
+    /// The wire didn't reach the peer, so no message was made.
+    Unreached,
+    /// The wire didn't send the message.
+    NotSent(WireError),
+    /// The node didn't make a message. This is never out of memory.
+    NotMade(NodeFault),
+}
 
-/// The number of the node that a message says it is of, if it is long enough to say one.
-pub fn sender_of(message: &[u8]) -> Option<u8>
-    ensures { result ≡ sender_of message.now }
-{
-    message.get(SENDER_AT).copied()
+/// What came of the last message that was due for a peer.
+#[derive(Clone, Copy, Debug, PartialEq, Eq)]
+pub enum Attempt {
+    /// None was due.
+    NotDue,
+    /// It was sent.
+    Sent,
+    /// None was sent.
+    Failed(AttemptFault),
+}
+
+impl Attempt {
+    /// By why none was sent, if none was.
+    pub(crate) fn by(fault: Option<AttemptFault>) -> Attempt
+        ensures { result ≡ attempt_by fault }
+    {
+        match fault {
+            None => Attempt::Sent,
+            Some(fault) => Attempt::Failed(fault),
+        }
+    }
 }

@@ -7,10 +7,11 @@ ghost use Rattle.gossip.specs.NewsRounds.{Breaks, IsEmpty, IsNewsBroken, IsNewsR
 ghost use Rattle.gossip.specs.Reports.{IsTold, calls_of};
 
 use crate::caller::Caller;
-use crate::news::{News, Pace};
+use crate::failures::{Attempt, AttemptFault};
 use crate::report::{Ended, GossipReport};
 use crate::rounds::{hear, tell_one};
 use crate::wire::Reach;
+use gossip_pace::{News, Pace};
 use node_registry::{Label, Registry, Seat};
 use std::alloc::{AllocError, Global};
 use std::sync::Wait;
@@ -118,12 +119,12 @@ fn look_at<L: Label, W: Reach, R: Wait>(
         return Ok(pace.rested());
     }
     if !wire.reaches(caller.rt, caller.alloc, pace.node) {
+        report.note_attempt(pace.node, Attempt::Failed(AttemptFault::Unreached));
         return Ok(pace.missed());
     }
-    if tell_one(caller, seat, wire, pace.node, report)? {
-        Ok(pace.told(news))
-    } else {
-        Ok(pace.missed())
+    match tell_one(caller, seat, wire, pace.node, report)? {
+        None => Ok(pace.told(news)),
+        Some(_) => Ok(pace.missed()),
     }
 }
 

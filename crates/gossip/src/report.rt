@@ -2,10 +2,14 @@
 
 ghost use Rattle.std.specs.Prelude.{◌≡◌, ◌+◌, ◌<◌, ◌≤◌, ◌^◌, ◌++◌, ◌∷◌, [], ◌↔◌, cond, length, vec_len};
 ghost use Rattle.std.specs.Prelude.{vec_capacity, OnOk, OnErr, IsErr};
+ghost use Rattle.std.specs.Prelude.{slice_set};
+ghost use Rattle.gossip.specs.Attempts.{attempt_at, attempt_by, no_attempts, why_of};
+ghost use Rattle.gossip.specs.declared.failures.AttemptFault.TheVariants.{NotMade};
 ghost use Rattle.gossip.specs.Refused.{failure_of, is_counted, rejection_of};
 
-use crate::failures::{Failed, Rejected};
+use crate::failures::{Attempt, AttemptFault, Failed, Rejected};
 use crate::wire::WireError;
+use message_format::MAX_NODES;
 use node_core::{NodeFault, Receipt};
 use node_registry::Refusals;
 use std::alloc::{AllocError, Global};
@@ -34,6 +38,8 @@ pub struct GossipReport {
     pub receipts: Vec<Receipt>,
     /// The messages that couldn't be sent, in the order of the calls that made them: to whom, and why.
     pub failed: Vec<Failed>,
+    /// Of each node what came of the last message that was due for it.
+    pub attempts: [Attempt; MAX_NODES as usize],
     /// The messages taken from the wire that the node rejected, otherwise than as out of memory, in
     /// the order in which they were taken: of whom, and why.
     pub rejected: Vec<Rejected>,
@@ -56,6 +62,7 @@ impl GossipReport {
         ensures noted { result.noted ≡ [] }
         ensures failed { result.failed.items ≡ [] }
         ensures rejected { result.rejected.items ≡ [] }
+        ensures attempts { result.attempts ≡ no_attempts }
     {
         GossipReport {
             emitted: 0,
@@ -64,10 +71,21 @@ impl GossipReport {
             refused: 0,
             receipts: Vec::new(alloc),
             failed: Vec::new(alloc),
+            attempts: [Attempt::NotDue; MAX_NODES as usize],
             rejected: Vec::new(alloc),
             noted: Refusals::new(),
             ended: Ended::Done,
         }
+    }
+
+    /// What came of the last message that was due for a node.
+    pub fn attempt(&self, peer: u8) -> Attempt
+        ensures { result ≡ attempt_at self.now.attempts peer }
+    {
+        self.attempts
+            .get(usize::from(peer))
+            .copied()
+            .unwrap_or(Attempt::NotDue)
     }
 
     /// Records a message that was made for a node, by what sending it came to.
@@ -82,6 +100,8 @@ impl GossipReport {
         ensures rejected { self.new.rejected.items ≡ self.old.rejected.items }
         ensures delivered { self.new.delivered ≡ self.old.delivered }
         ensures refused { self.new.refused ≡ self.old.refused }
+        ensures attempts { self.new.attempts
+            ≡ slice_set self.old.attempts to (attempt_by (why_of sent)) }
         ensures noted { self.new.noted ≡ self.old.noted }
         ensures ended { self.new.ended ≡ self.old.ended }
     {
@@ -90,6 +110,7 @@ impl GossipReport {
             self.lost += 1;
             self.failed.push_reserved(Failed { peer: to, why });
         }
+        self.note_attempt(to, Attempt::by(sent.err().map(AttemptFault::NotSent)));
         self.receipts.push_reserved(receipt);
     }
 
@@ -104,6 +125,7 @@ impl GossipReport {
         ensures failed { self.new.failed.items ≡ self.old.failed.items }
         ensures rejected { self.new.rejected.items ≡ self.old.rejected.items }
         ensures refused { self.new.refused ≡ self.old.refused }
+        ensures attempts { self.new.attempts ≡ self.old.attempts }
         ensures noted { self.new.noted ≡ self.old.noted }
         ensures ended { self.new.ended ≡ self.old.ended }
     {
@@ -126,6 +148,7 @@ impl GossipReport {
         ensures rejected { self.new.rejected.items ≡ self.old.rejected.items }
         ensures room { (vec_len self.new.rejected ≡ vec_len self.old.rejected)
             × (vec_capacity self.new.rejected ≡ vec_capacity self.old.rejected) }
+        ensures attempts { self.new.attempts ≡ self.old.attempts }
         ensures noted { self.new.noted ≡ self.old.noted }
         ensures ended { self.new.ended ≡ self.old.ended }
     {
@@ -152,11 +175,54 @@ impl GossipReport {
         ensures failed { self.new.failed.items ≡ self.old.failed.items }
         ensures rejected { self.new.rejected.items
             ≡ self.old.rejected.items ++ rejection_of sender fault }
+        ensures attempts { self.new.attempts ≡ self.old.attempts }
         ensures noted { self.new.noted ≡ self.old.noted }
         ensures ended { self.new.ended ≡ self.old.ended }
     {
         self.refuse(fault)?;
         self.rejected.push_reserved(Rejected { sender, fault });
         Ok(())
+    }
+
+    /// Counts that the node refused to make a message, and records it; the only error is out of memory, which is
+    /// neither counted nor recorded.
+    pub(crate) fn refuse_emit(&mut self, to: u8, why: NodeFault) -> Result<(), AllocError>
+        requires { self.old.refused + 1 < 2 ^ 64 }
+        ensures memory { IsErr result ↔ (why ≡ NodeFault.OutOfMemory) }
+        ensures receipts { self.new.receipts.items ≡ self.old.receipts.items }
+        ensures emitted { self.new.emitted ≡ self.old.emitted }
+        ensures lost { self.new.lost ≡ self.old.lost }
+        ensures delivered { self.new.delivered ≡ self.old.delivered }
+        ensures ok { OnOk result (self.new.refused ≡ self.old.refused + 1) }
+        ensures err { OnErr result (self.new.refused ≡ self.old.refused) }
+        ensures counted { self.new.refused ≡ self.old.refused + cond (is_counted why) 1 0 }
+        ensures failed { self.new.failed.items ≡ self.old.failed.items }
+        ensures rejected { self.new.rejected.items ≡ self.old.rejected.items }
+        ensures attempts { self.new.attempts ≡ cond (is_counted why)
+            (slice_set self.old.attempts to (Attempt.Failed (NotMade why))) self.old.attempts }
+        ensures noted { self.new.noted ≡ self.old.noted }
+        ensures ended { self.new.ended ≡ self.old.ended }
+    {
+        self.refuse(why)?;
+        self.note_attempt(to, Attempt::Failed(AttemptFault::NotMade(why)));
+        Ok(())
+    }
+
+    /// Records what came of a message that was due for a node.
+    pub(crate) fn note_attempt(&mut self, peer: u8, attempt: Attempt)
+        ensures attempts { self.new.attempts ≡ slice_set self.old.attempts peer attempt }
+        ensures receipts { self.new.receipts ≡ self.old.receipts }
+        ensures emitted { self.new.emitted ≡ self.old.emitted }
+        ensures lost { self.new.lost ≡ self.old.lost }
+        ensures delivered { self.new.delivered ≡ self.old.delivered }
+        ensures refused { self.new.refused ≡ self.old.refused }
+        ensures failed { self.new.failed ≡ self.old.failed }
+        ensures rejected { self.new.rejected ≡ self.old.rejected }
+        ensures noted { self.new.noted ≡ self.old.noted }
+        ensures ended { self.new.ended ≡ self.old.ended }
+    {
+        if peer < MAX_NODES {
+            self.attempts[usize::from(peer)] = attempt;
+        }
     }
 }

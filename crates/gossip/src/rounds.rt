@@ -1,7 +1,9 @@
 //! Rounds of gossip.
 
 ghost use Rattle.std.specs.Prelude.{◌≡◌, ◌+◌, ◌*◌, ◌≤◌, ◌<◌, ◌-◌, ◌^◌, [], ◌∷◌, length, vec_len};
-ghost use Rattle.std.specs.Prelude.{cond, vec_capacity, IfOk, OnErr, OnOk, Some, true};
+ghost use Rattle.std.specs.Prelude.{cond, is_some, vec_capacity, IfOk, IfSome, OnErr, OnOk, Some, true};
+ghost use Rattle.std.specs.Prelude.{◌++◌, slice_set};
+ghost use Rattle.gossip.specs.Attempts.{IsWhy, Tries, attempt_by, failed_by, with_tries};
 ghost use Rattle.node_calls.specs.Asks.{bare_emit};
 ghost use Rattle.node_registry.specs.Receipts.{IsGiven};
 ghost use Rattle.node_calls.specs.Told.{reply_told};
@@ -13,9 +15,10 @@ ghost use Rattle.gossip.specs.Steps.{Adds, Moves, Stops};
 ghost use Rattle.gossip.specs.Traffic.{Traffic, sends, takes};
 
 use crate::caller::Caller;
-use crate::failures::sender_of;
+use crate::failures::AttemptFault;
 use crate::report::{Ended, GossipReport};
 use crate::wire::{Wire, WireError};
+use gossip_pace::sender_of;
 use node_core::{Ask, Config, Receipt, Reply};
 use node_registry::{Label, Registry, Seat};
 use std::alloc::{AllocError, Global};
@@ -148,22 +151,28 @@ fn tell<L: Label, W: Wire, R: Wait>(
     Ok(())
 }
 
-/// Makes a message to a node, and sends it. Answers whether it was sent: else it is lost, or the node
-/// refused to make it.
+/// Makes a message to a node, and sends it. Answers why none was sent, if none was: the message is lost, or
+/// the node refused to make it.
 pub(crate) fn tell_one<L: Label, W: Wire, R: Wait>(
     caller: &Caller<'_, L, R>,
     seat: &mut Seat<L>,
     wire: &mut W,
     to: u8,
     report: &mut GossipReport,
-) -> Result<bool, AllocError>
+) -> Result<Option<AttemptFault>, AllocError>
     requires { calls_of report.old < 2 ^ 63 }
     ensures adds { Adds L.config L.seed seat.old seat.new
         report.old report.new (bare_emit to ∷ []) }
     ensures tried { OnOk result (tried_of report.old + 1 ≤ tried_of report.new) }
     ensures few { calls_of report.new ≤ calls_of report.old + 1 }
-    ensures missed { IfOk result (λ is_sent. report.new.lost + report.new.refused
-        ≡ report.old.lost + report.old.refused + cond is_sent 0 1) }
+    ensures missed { IfOk result (λ why. report.new.lost + report.new.refused
+        ≡ report.old.lost + report.old.refused + cond (is_some why) 1 0) }
+    ensures why { IfOk result (λ why. (IfSome why (IsWhy L.config L.seed to))
+        × (report.new.attempts ≡ slice_set report.old.attempts to (attempt_by why))
+        × (report.new.failed.items
+        ≡ report.old.failed.items ++ failed_by to (attempt_by why))) }
+    ensures tries { OnErr result ((tries : Tries)
+        × (report.new.attempts ≡ with_tries tries report.old.attempts)) }
     ensures moves { OnOk result (Moves L.config L.seed (W.traffic wire.old)
         (W.traffic wire.new) report.old report.new (to ∷ []) []) }
     ensures stops { OnErr result (Stops L.config L.seed (W.traffic wire.old)
@@ -177,13 +186,13 @@ pub(crate) fn tell_one<L: Label, W: Wire, R: Wait>(
             report.record_emit(receipt, to, sent);
             match sent {
                 Err(WireError::OutOfMemory) => Err(AllocError),
-                Err(_) => Ok(false),
-                Ok(()) => Ok(true),
+                Err(why) => Ok(Some(AttemptFault::NotSent(why))),
+                Ok(()) => Ok(None),
             }
         }
         Err(fault) => {
-            report.refuse(fault)?;
-            Ok(false)
+            report.refuse_emit(to, fault)?;
+            Ok(Some(AttemptFault::NotMade(fault)))
         }
     }
 }
@@ -218,6 +227,8 @@ pub(crate) fn hear<L: Label, W: Wire, R: Wait>(
     ensures adds { Adds L.config L.seed seat.old seat.new report.old report.new [] }
     ensures tried { tried_of report.old ≤ tried_of report.new }
     ensures few { calls_of report.new ≤ calls_of report.old + MOST_TAKEN }
+    ensures attempts { (report.new.attempts ≡ report.old.attempts)
+        × (report.new.failed.items ≡ report.old.failed.items) }
     ensures moves { OnOk result (Moves L.config L.seed (W.traffic wire.old)
         (W.traffic wire.new) report.old report.new [] []) }
     ensures stops { OnErr result (Stops L.config L.seed (W.traffic wire.old)
@@ -243,6 +254,8 @@ fn hear_one<L: Label, W: Wire, R: Wait>(
     ensures adds { Adds L.config L.seed seat.old seat.new report.old report.new [] }
     ensures tried { tried_of report.old ≤ tried_of report.new }
     ensures few { calls_of report.new ≤ calls_of report.old + 1 }
+    ensures attempts { (report.new.attempts ≡ report.old.attempts)
+        × (report.new.failed.items ≡ report.old.failed.items) }
     ensures moves { OnOk result (Moves L.config L.seed (W.traffic wire.old)
         (W.traffic wire.new) report.old report.new [] []) }
     ensures stops { OnErr result (Stops L.config L.seed (W.traffic wire.old)
@@ -274,6 +287,8 @@ fn take_in<L: Label, R: Wait>(
     ensures adds { Adds L.config L.seed seat.old seat.new report.old report.new [] }
     ensures tried { tried_of report.old ≤ tried_of report.new }
     ensures few { calls_of report.new ≤ calls_of report.old + 1 }
+    ensures attempts { (report.new.attempts ≡ report.old.attempts)
+        × (report.new.failed.items ≡ report.old.failed.items) }
     ensures moves { (was : Traffic) → OnOk result (Moves L.config L.seed
         was (takes (Some message.items) was) report.old report.new [] []) }
     ensures stops { (was : Traffic) → OnErr result (Stops L.config L.seed

@@ -100,3 +100,18 @@ pub trait Reach: Wire {
         ensures value { result ≡ reached self.new to }
         ensures same { Self.traffic self.new ≡ Self.traffic self.old };
 }
+
+/// A wire to nodes that answer each message. It can ask a node for a message, and keeps which nodes answered
+/// that they have lost their state. Neither sends or takes a message.
+pub trait PeerWire: Reach {
+    /// A node that lost its state, and how it is known.
+    type Loss: Drop;
+
+    /// Asks a node to send this one, which has the number `own`, what it knows, whether or not it is news.
+    fn ask<R: Wait>(&mut self, rt: &R, alloc: Global, own: u8, to: u8) -> Result<(), WireError>
+        ensures same { Self.traffic self.new ≡ Self.traffic self.old };
+
+    /// Returns the nodes that lost their state, by what they answered since the last time.
+    fn take_losses(&mut self, alloc: Global) -> Vec<Self::Loss>
+        ensures same { Self.traffic self.new ≡ Self.traffic self.old };
+}

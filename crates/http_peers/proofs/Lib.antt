@@ -1,5 +1,0 @@
-mod Asking
-mod Commas
-mod Lasting
-mod Naming
-mod Senders

@@ -1,6 +1,1 @@
 pub mod Answers
-pub mod Codes
-pub mod Heard
-pub mod Hello
-pub mod Senders
-pub mod Shown

@@ -1,7 +1,7 @@
 //! Which other nodes of its cluster a served node has heard, and which of their messages it refused.
 //!
-//! Whoever serves a node notes what each message came to, by the reply to it, and puts what was noted into
-//! the status. Whoever takes messages from another transport notes what the node returned for each. Where a
+//! Whoever serves a node notes what each message came to, by the reply to it, and shows the rows in the
+//! status. Whoever takes messages from another transport notes what the node returned for each. Where a
 //! node hears first, a call is made only once a message of each other node was accepted; messages and reads
 //! wait for nobody.
 //!
@@ -10,24 +10,15 @@
 //!
 //! ```rust
 //! let peers = Peers::new(alloc, 0, 3, Hearing::First)?;
-//! let reply = match peers.awaited(rt) {
+//! let reply = match peers.awaited(rt).node() {
 //!     Some(node) => waiting(alloc, node),
 //!     None => called(&mut node, request),
 //! };
 //! ```
 #![tactic(auto)]
 
-mod askers;
-mod code;
-mod heard;
-mod hello;
-pub mod laws;
-mod peers;
-mod sender;
-mod shown;
-mod waits;
+mod shared;
 
-pub use heard::{Cluster, Hearing};
-pub use peers::{NotedDelivery, NotedReply, Peers};
-pub use sender::sender_of;
-pub use waits::waiting;
+pub use peers::{AskState, Awaited, Cluster, Hearing, NotedAttempt, sender_of, waiting};
+pub use report_text::SendFault;
+pub use shared::{NotedDelivery, NotedReply, Peers};

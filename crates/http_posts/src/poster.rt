@@ -7,11 +7,13 @@ ghost use Rattle.http_posts.specs.Posts.{Posts, PostsHello, PostsTo};
 use crate::answer::{Exchanged, answered};
 use crate::connection::{Connection, POST_SECONDS};
 use crate::fault::PostError;
+use crate::fields::{fields_of, message_fields_of};
 use crate::key::Key;
 use crate::peer::Peer;
 use crate::request::request;
 use crate::waiting::output_of;
 use http_routes::{GOSSIP_PATH, HELLO_PATH};
+use hyper::header::HeaderMap;
 use itoa::Buffer;
 use std::alloc::{AllocGlobal, Global};
 use std::net::Net;
@@ -61,8 +63,10 @@ impl<R: Wait + Clock + Net + RandomSource + AllocGlobal + Drop> Poster<R> {
         })
     }
 
-    /// Posts a message to the server of a peer over a connection to it, with the key, if there is one, and answers
-    /// what was posted and answered. No reply within the connection's time is `Failed`.
+    /// Posts a message to the server of a peer over a connection to it, with its digest (RFC 9530) and, if there is a
+    /// key, with the key and the message's authentication code, and returns what was posted and what was answered.
+    ///
+    /// Errors: `Failed` if no reply comes within the connection's time.
     pub fn post(
         &mut self,
         alloc: Global,
@@ -76,7 +80,8 @@ impl<R: Wait + Clock + Net + RandomSource + AllocGlobal + Drop> Poster<R> {
         ensures answered { IfOk result IsAnswered }
         ensures stays { self.new.rt ≡ self.old.rt }
     {
-        self.post_to(alloc, connection, GOSSIP_PATH, key, message)
+        let fields = message_fields_of(alloc, connection.peer.address, key, message)?;
+        self.post_to(alloc, connection, GOSSIP_PATH, fields, message)
     }
 
     /// Posts the number of a node that wants to be told to the server of a peer, as `post` does a message.
@@ -95,25 +100,26 @@ impl<R: Wait + Clock + Net + RandomSource + AllocGlobal + Drop> Poster<R> {
     {
         let mut buffer = Buffer::new();
         let number = buffer.format(node).as_bytes();
-        self.post_to(alloc, connection, HELLO_PATH, key, number)
+        let fields = fields_of(alloc, connection.peer.address, key)?;
+        self.post_to(alloc, connection, HELLO_PATH, fields, number)
     }
 
-    // Posts bytes to a path of the server of a peer.
+    // Posts bytes with these fields to a path of the server of a peer.
     fn post_to(
         &mut self,
         alloc: Global,
         connection: Connection,
         path: &str,
-        key: Option<&Key>,
+        fields: HeaderMap,
         bytes: &[u8],
     ) -> Result<Exchanged, PostError>
         ensures to { IfOk result (λ told. told.posted.peer ≡ connection.peer) }
-        ensures posts { IfOk result (λ told. PostsTo path.now connection.peer.address
-            (option_copied key.entry) bytes.now told.posted.request.value) }
+        ensures posts { IfOk result
+            (λ told. PostsTo path.now fields bytes.now told.posted.request.value) }
         ensures answered { IfOk result IsAnswered }
         ensures stays { self.new.rt ≡ self.old.rt }
     {
-        let request = request(alloc, path, connection.peer.address, key, bytes)?;
+        let request = request(alloc, path, fields, bytes)?;
         answered(&self.rt, alloc, &mut self.runtime, connection, request)
     }
 }

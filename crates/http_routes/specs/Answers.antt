@@ -1,5 +1,5 @@
 -- What a request comes to at a node: the reply, and the node after it.
-use Rattle.std.specs.Prelude.{◌≡◌, ◌⊎◌, ℕ, List, [], length, decimal}
+use Rattle.std.specs.Prelude.{◌≡◌, ◌⊎◌, ℕ, List, [], length, decimal, None}
 use Rattle.stamp_register.specs.Keys.{stamp_text}
 use Rattle.stamp_register.specs.declared.key.Stamp.{Stamp}
 use Rattle.node_calls.specs.declared.fault.NodeFault.{NodeFault}
@@ -65,7 +65,7 @@ Comes k wants.list new given =
 Comes k wants.report new given =
     (new ≡ k) × IsReply (text_reply 200 (report_json_text (state_known k) k.config.nodes)) given
 Comes k wants.status new given =
-    (new ≡ k) × IsReply (text_reply 200 (status_json_text (head_of k) (state_known k))) given
+    (new ≡ k) × IsReply (text_reply 200 (status_json_text (head_of k) (state_known k) None)) given
 Comes k (wants.sets_spread name text) new given =
     (IsSetReplied k name text new given ⊎ IsRefusedSo (IsNotSetSpread k name text new) given)
     ⊎ ((new ≡ k) × (given ≡ no_memory))

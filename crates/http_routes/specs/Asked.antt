@@ -6,6 +6,8 @@ use Rattle.message_format.specs.Spelling.{max_message}
 use Rattle.http_routes.specs.Paths.{TargetValue, target_of}
 use Rattle.http_routes.specs.Paths as paths
 use Rattle.http_routes.specs.Table.{has_method, includes, row_of}
+use Rattle.http_routes.specs.declared.table.Keeps.{Keeps}
+use Rattle.http_routes.specs.declared.table.Keeps.TheVariants.{Nothing}
 use Rattle.http_routes.specs.declared.table.Methods.{Methods}
 use Rattle.http_routes.specs.declared.table.RouteSet.{RouteSet}
 use Rattle.http_routes.specs.declared.table.Row.{Row}
@@ -132,6 +134,11 @@ fault_text faults.BadMethod = codes "bad method"
 fault_text faults.TooLong = codes "too long"
 fault_text faults.BadText = codes "bad text"
 fault_text faults.BadNumber = codes "bad number"
+
+-- what is kept of the body of a request: what its route keeps
+abbrev pub keeps_of : AskedValue → Keeps
+keeps_of (known request row) = row.keeps
+keeps_of _ = Nothing
 
 -- of several faults the first: no route, another method, a body of more bytes than the longest message has
 abbrev pub fault_of : AskedValue → ℕ → Option RequestFault

@@ -89,7 +89,7 @@ pub fn answer_in(
             RoomReply::Apart(HttpReply::written(alloc, 200, report))
         }
         WantedRef::Status => {
-            RoomReply::Apart(HttpReply::written(alloc, 200, node_status(alloc, core)))
+            RoomReply::Apart(HttpReply::written(alloc, 200, node_status(alloc, core, None)))
         }
         WantedRef::SetSpread { name, text } => {
             RoomReply::Apart(set_spread(core, alloc, name, text))

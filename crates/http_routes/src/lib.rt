@@ -30,6 +30,7 @@
 #![tactic(auto)]
 
 mod answering;
+mod digest;
 mod http_reply;
 pub mod laws;
 mod paths;
@@ -43,6 +44,7 @@ mod targets;
 mod wanted;
 
 pub use answering::{answer, answer_in};
+pub use digest::{DIGEST_FIELD, MAC_FIELD, digest_text, hmac_sha256, is_intact, mac_text};
 pub use http_reply::HttpReply;
 pub use paths::Routes;
 pub use reply::{ReplyRoom, reply_of};
@@ -50,6 +52,6 @@ pub use request::{Asked, MAX_BODY, NodeRequest, Request, RequestFault};
 pub use room::{KeptRoom, RoomReply};
 pub use spreading::{set_spread, spread};
 pub use status::node_status;
-pub use table::{Content, GOSSIP_PATH, HELLO_PATH, Kind, Methods, RouteSet, Row, Tagging};
+pub use table::{Content, GOSSIP_PATH, HELLO_PATH, Keeps, Kind, Methods, RouteSet, Row, Tagging};
 pub use targets::{RouteId, Target};
 pub use wanted::{Wanted, WantedRef, route};

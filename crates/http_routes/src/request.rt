@@ -5,11 +5,11 @@ ghost use Rattle.std.specs.Cow.{cow_str_bytes};
 ghost use Rattle.decimals.specs.Decimals.{number_of};
 ghost use Rattle.http_routes.specs.Asked.{asked_at, asked_of, asked_value, fault_of, fault_status};
 ghost use Rattle.http_routes.specs.Asked.{max_amount, node_request_value, request_at, request_value};
-ghost use Rattle.http_routes.specs.Asked.{fault_text, grant_asked, shift_asked};
+ghost use Rattle.http_routes.specs.Asked.{fault_text, grant_asked, keeps_of, shift_asked};
 ghost use Rattle.http_routes.specs.Targets.{target_value};
 
 use crate::paths::Routes;
-use crate::table::{Methods, RouteSet, Row};
+use crate::table::{Keeps, Methods, RouteSet, Row};
 use crate::targets::Target;
 use decimals::{amount, byte};
 use message_format::MAX_MESSAGE;
@@ -289,7 +289,17 @@ impl Asked<'_> {
         }
     }
 
-    /// The same with memory of its own, so that it outlives the path. The only error is out of memory.
+    /// What is kept of the body.
+    pub fn keeps(&self) -> Keeps
+        ensures { result ≡ keeps_of (asked_value self.now) }
+    {
+        match self {
+            Asked::Known { row, .. } => row.keeps,
+            Asked::Nowhere | Asked::OtherMethod(_) => Keeps::Nothing,
+        }
+    }
+
+    /// The same request with memory of its own, so that it outlives the path. The only error is out of memory.
     pub fn into_owned(self, alloc: Global) -> Result<Asked<'static>, AllocError>
         ensures { IfOk result (λ a. asked_value a ≡ asked_value self.entry) }
     {

@@ -7,6 +7,12 @@ ghost use Rattle.http_routes.specs.Targets.{target_value};
 
 use crate::targets::Target;
 
+/// The longest action string, in bytes.
+const LONGEST_ACTIONS: u32 = 1024;
+
+/// The longest `FAILPOINTS` string, in bytes.
+const LONGEST_SETTINGS: u32 = 65_536;
+
 /// The path to which a node posts its messages to another.
 pub const GOSSIP_PATH: &str = "/gossip";
 
@@ -70,6 +76,18 @@ pub enum Tagging {
     Tagged,
 }
 
+/// What is kept of a request's body, of which the rest is counted and dropped.
+#[derive(Clone, Copy, Debug, PartialEq, Eq)]
+pub enum Keeps {
+    /// Nothing: the body isn't looked at.
+    Nothing,
+    /// Of a text one byte more than this, which the longest one has: a longer one is rejected, whatever
+    /// it says.
+    Text(u32),
+    /// All of it.
+    Whole,
+}
+
 /// A row of the table.
 #[derive(Clone, Copy, Debug, PartialEq, Eq)]
 pub struct Row {
@@ -81,9 +99,11 @@ pub struct Row {
     pub content: Content,
     /// Whether that body has a tag.
     pub tagging: Tagging,
+    /// What is kept of the body of a request.
+    pub keeps: Keeps,
 }
 
-// A route whose replies are texts without a tag.
+// A route whose replies are texts without a tag, and whose requests need no body.
 fn text_row(set: RouteSet, methods: Methods, kind: Kind) -> Row
     ensures { result ≡ text_row set methods kind }
 {
@@ -93,6 +113,7 @@ fn text_row(set: RouteSet, methods: Methods, kind: Kind) -> Row
         kind,
         content: Content::Text,
         tagging: Tagging::Untagged,
+        keeps: Keeps::Nothing,
     }
 }
 
@@ -107,13 +128,29 @@ impl Target<'_> {
                 ..text_row(RouteSet::Program, Methods::Get, Kind::Page)
             },
             Target::Points => text_row(RouteSet::Node, Methods::Get, Kind::Read),
-            Target::Point { .. } => text_row(RouteSet::Node, Methods::PutOrDelete, Kind::Call),
-            Target::Load => text_row(RouteSet::Node, Methods::Post, Kind::Call),
-            Target::Spread { .. } => text_row(RouteSet::Library, Methods::PutOrPost, Kind::Call),
+            Target::Point { .. } => Row {
+                keeps: Keeps::Text(LONGEST_ACTIONS),
+                ..text_row(RouteSet::Node, Methods::PutOrDelete, Kind::Call)
+            },
+            Target::Load => Row {
+                keeps: Keeps::Text(LONGEST_SETTINGS),
+                ..text_row(RouteSet::Node, Methods::Post, Kind::Call)
+            },
+            Target::Spread { .. } => Row {
+                keeps: Keeps::Text(LONGEST_ACTIONS),
+                ..text_row(RouteSet::Library, Methods::PutOrPost, Kind::Call)
+            },
             Target::Shift { .. } => text_row(RouteSet::Node, Methods::Post, Kind::Call),
             Target::Grant { .. } => text_row(RouteSet::Node, Methods::Post, Kind::Call),
-            Target::Gossip => text_row(RouteSet::Node, Methods::Post, Kind::Delivery),
-            Target::Hello => text_row(RouteSet::Cluster, Methods::Post, Kind::Hello),
+            Target::Gossip => Row {
+                keeps: Keeps::Whole,
+                ..text_row(RouteSet::Node, Methods::Post, Kind::Delivery)
+            },
+            // A number may begin with any number of zeros.
+            Target::Hello => Row {
+                keeps: Keeps::Whole,
+                ..text_row(RouteSet::Cluster, Methods::Post, Kind::Hello)
+            },
             Target::Report => Row {
                 content: Content::Json,
                 ..text_row(RouteSet::Node, Methods::Get, Kind::Read)

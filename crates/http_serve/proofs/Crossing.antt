@@ -10,8 +10,8 @@ use Rattle.node_registry.specs.contracts.registry.Registry as Registry
 use Rattle.node_registry.specs.contracts.guarded.Seat as Seat
 use Rattle.node_registry.proofs.registry.Registry.TheSendSync as registry
 use Rattle.node_registry.proofs.guarded.Seat.TheSendSync as seat
-use Rattle.http_peers.specs.contracts.peers.Peers as Peers
-use Rattle.http_peers.proofs.peers.Peers.TheSendSync as peers
+use Rattle.http_peers.specs.contracts.shared.Peers as Peers
+use Rattle.http_peers.proofs.shared.Peers.TheSendSync as peers
 use Rattle.http_service.specs.contracts.ending.Ending as Ending
 use Rattle.http_service.proofs.ending.Ending.TheSendSync as ending
 use Rattle.http_serve.specs.contracts.handler.forgetting.ForgettingHandler as ForgettingHandler

@@ -1,5 +1,5 @@
 -- What a node answers that is served, by what is wanted of it.
-use Rattle.std.specs.Prelude.{◌≡◌, ◌⊎◌, ℕ, ◌+◌, Bool, List}
+use Rattle.std.specs.Prelude.{◌≡◌, ◌⊎◌, ℕ, ◌+◌, Bool, List, Option, Some, None}
 use Rattle.node_steps.specs.declared.config.Config.{Config}
 use Rattle.node_calls.specs.declared.fault.NodeFault.{NodeFault}
 use Rattle.node_calls.specs.declared.receipt.Receipt.{Receipt}
@@ -13,6 +13,7 @@ use Rattle.node_registry.specs.Receipts as registry
 use Rattle.node_registry.specs.Seats.{SeatState}
 use Rattle.report_text.specs.Json.{report_json_text}
 use Rattle.report_text.specs.Status.{status_json_text}
+use Rattle.report_text.specs.declared.peer_rows.PeerRow.{PeerRow}
 use Rattle.http_routes.specs.Asked.{NodeRequestValue}
 use Rattle.http_routes.specs.Replies.{ReplyValue, IsReply, no_memory, text_reply}
 use Rattle.http_routes.specs.Answers.{head_of}
@@ -34,6 +35,16 @@ pub record IsRefused (config : Config) (seed : List ℕ) (ask : AskTold) (given 
   pub refused : registry.IsRefused config seed (asked_first config.nodes ask) fault
   pub told : IsReply (refusal_value fault) given
 
+-- some lawful node has this status, which shows these other nodes, if they are given
+abbrev pub IsStatus : Config → List ℕ → Option (List PeerRow) → ReplyValue → Type 0
+IsStatus config seed peers given =
+    (c : Cell) × IsLawfulAt config seed c
+    × IsReply (text_reply 200 (status_json_text (head_of c.node) (state_known c.node) peers)) given
+
+-- a request for the status is answered so, by the other nodes that it shows
+abbrev pub ShowsPeers : Config → List ℕ → List PeerRow → ReplyValue → Type 0
+ShowsPeers config seed peers given = IsStatus config seed (Some peers) given
+
 -- what is wanted of a node of this configuration comes to this reply
 abbrev pub Comes : Config → List ℕ → Bool → ℕ → WantedValue → ReplyValue → Type 0
 Comes config seed keeps seats (wants.call ask) given = IsMade config seed ask given ⊎ IsRefused config seed ask given
@@ -42,9 +53,7 @@ Comes config seed keeps seats wants.list given =
 Comes config seed keeps seats wants.report given =
     (c : Cell) × IsLawfulAt config seed c
     × IsReply (text_reply 200 (report_json_text (state_known c.node) config.nodes)) given
-Comes config seed keeps seats wants.status given =
-    (c : Cell) × IsLawfulAt config seed c
-    × IsReply (text_reply 200 (status_json_text (head_of c.node) (state_known c.node))) given
+Comes config seed keeps seats wants.status given = IsStatus config seed None given
 Comes config seed keeps seats (wants.sets_spread name text) given =
     IsSpreadServed config seed keeps seats (wants.sets_spread name text) given
 Comes config seed keeps seats (wants.spreads name) given =

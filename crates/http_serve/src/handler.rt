@@ -6,6 +6,7 @@ ghost use Rattle.http_routes.specs.Asked.{node_request_value};
 ghost use Rattle.http_routes.specs.Replies.{http_value};
 ghost use Rattle.http_routes.specs.Requests as requests;
 ghost use Rattle.http_serve.specs.Served.{AnswersRequest, AnswersRequestFrom, IsServed, IsServedFrom};
+ghost use Rattle.http_serve.specs.Served.{IsStatus, ShowsPeers};
 ghost use Rattle.http_serve.specs.Spreads.{spread_of, IsSpreadFrom};
 
 mod forgetting;
@@ -18,7 +19,7 @@ use http_routes::{HttpReply, NodeRequest, ReplyRoom, WantedRef, node_status};
 use node_core::{Ask, AskRef};
 use node_registry::{Label, Registry, Seat};
 pub(crate) use recording::RecordingHandler;
-use report_text::report_json;
+use report_text::{PeerRow, report_json};
 use spreading::SpreadRequest;
 use std::alloc::{AllocError, Global};
 use std::sync::{Arc, Mutex, Wait};
@@ -54,11 +55,24 @@ impl<L: Label> NodeReader<L> {
         HttpReply::written(alloc, 200, report)
     }
 
-    fn status<R: Wait>(&self, rt: &R, alloc: Global) -> HttpReply
-        ensures { IsServed L.config L.seed L.keeps L.parts requests.status (http_value result) }
+    fn status<R: Wait>(&self, rt: &R, alloc: Global, peers: Option<&[PeerRow]>) -> HttpReply
+        ensures { IsStatus L.config L.seed (option_map (λ rows. rows.now) peers.entry)
+            (http_value result) }
     {
-        let status = self.registry.with(rt, |core| node_status(alloc, core));
-        HttpReply::written(alloc, 200, status)
+        match peers {
+            Some(rows) => {
+                let status = self
+                    .registry
+                    .with(rt, |core| node_status(alloc, core, Some(rows)));
+                HttpReply::written(alloc, 200, status)
+            }
+            None => {
+                let status = self
+                    .registry
+                    .with(rt, |core| node_status(alloc, core, None));
+                HttpReply::written(alloc, 200, status)
+            }
+        }
     }
 
     /// The reply to a request whose body came whole, from a seat, which counts the calls that were
@@ -83,7 +97,7 @@ impl<L: Label> NodeReader<L> {
             WantedRef::Do(ask) => self.call_of(rt, alloc, seat, ask),
             WantedRef::List => self.list(rt, alloc),
             WantedRef::Report => self.report(rt, alloc),
-            WantedRef::Status => self.status(rt, alloc),
+            WantedRef::Status => self.status(rt, alloc, None),
             WantedRef::SetSpread { name, text } => self.spread(rt, alloc, seat, name, Some(text)),
             WantedRef::Spread { name } => self.spread(rt, alloc, seat, name, None),
             WantedRef::Refused(fault) => HttpReply::refusal(alloc, fault),
@@ -156,6 +170,8 @@ impl<L: Label> NodeHandler<L> {
 impl<L: Label> NodeAnswers for NodeHandler<L> {
     ghost answers = { λ _. AnswersRequest L.config L.seed L.keeps L.parts };
 
+    ghost shows = { λ _. ShowsPeers L.config L.seed };
+
     fn reply<R: Wait>(
         &self,
         rt: &R,
@@ -165,5 +181,9 @@ impl<L: Label> NodeAnswers for NodeHandler<L> {
     ) -> HttpReply {
         let mut seat = self.seat.lock(rt);
         self.reader.answer_from(rt, alloc, &mut seat, request, body)
+    }
+
+    fn status<R: Wait>(&self, rt: &R, alloc: Global, peers: &[PeerRow]) -> HttpReply {
+        self.reader.status(rt, alloc, Some(peers))
     }
 }

@@ -17,5 +17,7 @@ mod served_node;
 mod serving;
 
 pub use http_peers::{Hearing, Peers};
-pub use http_service::{Access, Ending, KeyFault, Reason, ServeFault, Served};
+pub use http_service::{
+    Access, Clients, Ended, Ending, KeyFault, Offer, Reason, ServeFault, Served,
+};
 pub use serving::{serve, serve_forgetting, serve_recording};

@@ -4,7 +4,7 @@ ghost use Rattle.std.specs.Prelude.{◌≡◌, IfOk, MatchOption, is_some};
 ghost use Rattle.std.specs.Arc.{arc_value};
 ghost use Rattle.http_routes.specs.Asked.{node_request_value};
 ghost use Rattle.http_routes.specs.Replies.{http_value, IsReply};
-ghost use Rattle.http_peers.specs.Senders.{sender_of};
+ghost use Rattle.gossip_pace.specs.Senders.{sender_of};
 ghost use Rattle.http_serve.specs.Clients.{stop_reply, AnswersClient, IsAnsweredAs, IsAnsweredCall};
 ghost use Rattle.http_serve.specs.Clients.{IsAnsweredStatus, IsMet, IsStopped};
 
@@ -137,26 +137,21 @@ impl<N: NodeAnswers> ServedNode<N> {
             (N.answers self.now.node (node_request_value request.now) body.items)
             (http_value result) }
     {
-        match self.peers.awaited(rt) {
+        match self.peers.awaited(rt).node() {
             Some(node) => waiting(alloc, node),
             None => self.node.reply(rt, alloc, request, body),
         }
     }
 
     // The status, with what was heard of the other nodes.
-    fn status<R: Wait>(
-        &self,
-        rt: &R,
-        alloc: Global,
-        request: &NodeRequest<'_>,
-        body: Vec<u8>,
-    ) -> HttpReply
-        ensures { IsAnsweredStatus (arc_value self.now.peers).cluster
-            (N.answers self.now.node (node_request_value request.now) body.items)
+    fn status<R: Wait>(&self, rt: &R, alloc: Global) -> HttpReply
+        ensures { IsAnsweredStatus (arc_value self.now.peers).cluster (N.shows self.now.node)
             (http_value result) }
     {
-        let reply = self.node.reply(rt, alloc, request, body);
-        self.peers.shown(rt, alloc, reply)
+        match self.peers.rows(rt, alloc) {
+            Ok(rows) => self.node.status(rt, alloc, &rows),
+            Err(_) => HttpReply::no_memory(alloc),
+        }
     }
 
     // The reply to what is asked of the node, by what kind of request that is.
@@ -169,7 +164,7 @@ impl<N: NodeAnswers> ServedNode<N> {
         body: Vec<u8>,
     ) -> HttpReply
         ensures { IsAnsweredAs kind (arc_value self.now.peers).hearing
-            (arc_value self.now.peers).cluster
+            (arc_value self.now.peers).cluster (N.shows self.now.node)
             (N.answers self.now.node (node_request_value request.now) body.items)
             (http_value result) }
     {
@@ -177,7 +172,7 @@ impl<N: NodeAnswers> ServedNode<N> {
             return self.call(rt, alloc, request, body);
         }
         match kind {
-            Kind::Status => self.status(rt, alloc, request, body),
+            Kind::Status => self.status(rt, alloc),
             Kind::Delivery => self.deliver(rt, alloc, request, body).reply,
             Kind::Read | Kind::Call | Kind::Hello | Kind::Page | Kind::Stop => {
                 self.node.reply(rt, alloc, request, body)
@@ -188,7 +183,7 @@ impl<N: NodeAnswers> ServedNode<N> {
 
 impl<N: NodeAnswers> Handler for ServedNode<N> {
     ghost answers = { λ served. AnswersClient (is_some served.ending)
-        (arc_value served.peers).hearing (arc_value served.peers).cluster
+        (arc_value served.peers).hearing (arc_value served.peers).cluster (N.shows served.node)
         (N.answers served.node) };
 
     fn reply<R: Wait + Clock>(

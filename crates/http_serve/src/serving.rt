@@ -3,12 +3,15 @@
 ghost use Rattle.std.specs.Prelude.{◌≡◌, ◌⊎◌, IfOk, IfErr, false};
 ghost use Rattle.std.specs.Arc.{arc_value};
 ghost use Rattle.http_service.specs.declared.fault.ServeFault.TheVariants.{AcceptFailed, OutOfMemory};
+ghost use Rattle.http_routes.specs.declared.table.RouteSet.TheVariants.{Cluster, Program};
+ghost use Rattle.http_service.specs.Clients.{Offers};
 ghost use Rattle.http_service.specs.Endings.{IsServedTo};
+ghost use Rattle.http_service.specs.Keys.{key_in};
 
 use crate::handler::{ForgettingHandler, NodeHandler, RecordingHandler};
 use crate::served_node::ServedNode;
 use http_peers::Peers;
-use http_service::{Access, Ending, ServeFault, Served, serve_all, serve_until_ended};
+use http_service::{Access, Clients, Ending, ServeFault, Served, serve_all, serve_until_ended};
 use node_registry::{Label, Registry, Seat};
 use part_keeper::Recorder;
 use std::alloc::{AllocGlobal, Global};
@@ -23,21 +26,23 @@ use tokio::runtime::Runtime;
 /// each has ended. A connection that breaks, or that is ended for its time, counts as served. Where
 /// one can't be accepted, it is tried again after a rest. The seat doesn't come back. Which peers are
 /// heard is noted, and a call may wait for them.
-pub fn serve<L, R>(
+pub fn serve<'a, L, R>(
     rt: &R,
     alloc: Global,
     runtime: &mut Runtime,
     registry: &Arc<Registry<L>>,
     seat: Seat<L>,
     peers: &Arc<Peers>,
-    access: Access,
+    access: &'a Access,
     listener: TcpListener,
     requests: u32,
-) -> Result<u32, ServeFault>
+) -> Result<Clients<'a>, ServeFault>
 where
     L: Label + Send + Sync,
     R: Wait + Threads + Clock + RandomSource + AllocGlobal + Send + Sync + Copy,
-    ensures ok { IfOk result (λ served. served ≡ requests) }
+    ensures ok { IfOk result (λ clients. clients.let_in ≡ requests) }
+    ensures offer { IfOk result
+        (λ clients. Offers Cluster (key_in access.now) clients.offer) }
     ensures err { IfErr result (λ f. (f ≡ AcceptFailed) ⊎ (f ≡ OutOfMemory)) }
 {
     let node = NodeHandler::new(registry, seat)?;
@@ -54,7 +59,7 @@ pub fn serve_forgetting<'e, L, R>(
     registry: &Arc<Registry<L>>,
     seat: Seat<L>,
     peers: &Arc<Peers>,
-    access: Access,
+    access: &'e Access,
     listener: TcpListener,
     requests: u32,
     ending: &'e Arc<Ending>,
@@ -64,6 +69,8 @@ where
     R: Wait + Threads + Clock + RandomSource + AllocGlobal + Send + Sync + Copy,
     requires { L.keeps ≡ false }
     ensures ok { IfOk result (IsServedTo requests (arc_value ending.now).reason.id) }
+    ensures offer { IfOk result
+        (λ served. Offers Program (key_in access.now) served.clients.offer) }
     ensures err { IfErr result (λ f. (f ≡ AcceptFailed) ⊎ (f ≡ OutOfMemory)) }
 {
     let node = ForgettingHandler::new(rt, alloc, registry, seat)?;
@@ -83,7 +90,7 @@ pub fn serve_recording<'e, L, R>(
     registry: &Arc<Registry<L>>,
     recorder: &Arc<Recorder<L>>,
     peers: &Arc<Peers>,
-    access: Access,
+    access: &'e Access,
     listener: TcpListener,
     requests: u32,
     ending: &'e Arc<Ending>,
@@ -92,6 +99,8 @@ where
     L: Label + Send + Sync,
     R: Wait + Threads + Clock + RandomSource + AllocGlobal + Send + Sync + Copy,
     ensures ok { IfOk result (IsServedTo requests (arc_value ending.now).reason.id) }
+    ensures offer { IfOk result
+        (λ served. Offers Program (key_in access.now) served.clients.offer) }
     ensures err { IfErr result (λ f. (f ≡ AcceptFailed) ⊎ (f ≡ OutOfMemory)) }
 {
     let node = RecordingHandler::new(registry, recorder)?;

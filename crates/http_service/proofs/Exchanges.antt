@@ -1,5 +1,6 @@
 -- How the reading of a body goes on and ends, piece by piece, and what an exchange gives by that.
-use Rattle.std.proofs.Common.{◌≡◌, ℕ, List, [], ◌∷◌, ◌++◌, map, Option, Some, None, Result, Ok, Err, inl, inr, sym, ap, ◌∙◌, subst, IfSome, IsFalse, MatchOption, append_assoc, append-nil}
+use Rattle.std.proofs.Common.{◌≡◌, ℕ, List, [], ◌∷◌, ◌++◌, map, Option, Some, None, Result, Ok, Err, inl, inr, refl, sym, ap, ◌∙◌, subst, IfSome, IsFalse, IsTrue, MatchOption, append_assoc, append-nil}
+use Rattle.std.specs.Prelude.{vec_capacity}
 use Rattle.std.proofs.lemmas.List.{map-append}
 use Rattle.std.proofs.lemmas.List.Concat.{flat_map-append}
 use Rattle.futures.specs.Runs.{Runs, After, Within}
@@ -19,7 +20,9 @@ use Rattle.http_service.specs.declared.exchange.Reading.TheVariants as readings
 use Rattle.http_service.specs.declared.heads.Refusal.{Refusal}
 use Rattle.http_service.specs.declared.labels.Labels.{Labels}
 use Rattle.http_service.specs.Heads.{refusal_labels, refusal_reply}
-use Rattle.http_service.specs.Exchanges.{Piece, TakesIn, GoesOn, EndsSo, IsAnswered, ReadsSo, Gives, GivesRead, IsRefused, Responds, asking_of, pieces_of}
+use Rattle.http_service.specs.declared.kept_body.KeptBody.{KeptBody}
+use Rattle.http_service.specs.Exchanges.{Piece, TakesIn, GoesOn, EndsSo, TakesFrom, GoesFrom, EndsFrom, IsAnswered, ReadsSo, Gives, GivesRead, IsRefused, Responds, asking_of, keeps_in, pieces_of}
+use Rattle.http_service.specs.Keeping.{HasCome}
 
 joined : (had : List ℕ) (fs gs : List (Frame (List ℕ))) → (had ++ joined_data fs) ++ joined_data gs ≡ had ++
     joined_data (fs ++ gs)
@@ -99,39 +102,105 @@ module _ (source : Runs Piece) (had : List ℕ) where
   goes_by room (Some (Err LengthLimit)) has rest after is = absurd (cc)
   goes_by room (Some (Err (Body error))) has rest after is = absurd (cc)
 
+-- the way of a body of which this is kept
+module _ (source rest : Runs Piece) (old new : KeptBody) where
+  -- nothing came of it since
+  pub goes_within : (later : Runs Piece) → Within rest later → GoesFrom source old rest new → GoesFrom source old later new
+  goes_within later within on keeps had h =
+      let so = on keeps had h in
+      (so.0, goes_on_within source had rest so.0 so.1 later within, so.2)
+
+  -- one more piece came
+  pub goes_piece : (piece : Option Piece) (later : Runs Piece) (now : KeptBody) → GoesFrom source old rest new
+      → IfSome piece (λ x. After rest x later) → TakesFrom piece new now None → GoesFrom source old later now
+  goes_piece piece later now on after takes keeps had h =
+      let so = on keeps had h in
+      let more = takes keeps so.0 so.2 in (
+        more.0,
+        goes_on_more source had rest so.0 so.1 later more.0
+            (goes_by rest so.0 (vec_capacity new.read) piece more.0 later after more.1),
+        more.2,
+      )
+
+  -- by one more piece it ended
+  pub ends_piece : (piece : Option Piece) (reading : Reading) (now : KeptBody) → GoesFrom source old rest new
+      → rest [] piece → TakesFrom piece new now (Some reading) → EndsFrom source old reading now
+  ends_piece piece reading now on came takes keeps had h =
+      let so = on keeps had h in
+      let more = takes keeps so.0 so.2 in (
+        more.0,
+        ends_later source had rest so.0 so.1 reading more.0
+            (ends_by rest so.0 (vec_capacity new.read) piece more.0 reading came more.1),
+        more.2,
+      )
+
 -- what an exchange gives later is what it gives
 module _ {I H R : Type 0} (answers : H → RequestValue → Row → List ℕ → ReplyValue → Type 0) where
-  ends_then : (old new : Exchange I H R) (reading : Reading) (has : List ℕ) → IsFalse old.is_too_long
-      → new.is_too_long ≡ old.is_too_long
-      → GoesOn (pieces_of old.body) old.read.items (pieces_of new.body) new.read.items → ReadsSo new reading has →
-      ReadsSo old reading has
-  ends_then old new reading has isnt told on (inl (is, long)) = absurd (cc)
-  ends_then old new reading has isnt told on (inr (still, ends)) =
-      inr (isnt, ends_later (pieces_of old.body) old.read.items (pieces_of new.body) new.read.items on reading has ends)
+  abbrev pub CameOf : Exchange I H R → List ℕ → Type 0
+  CameOf e had = HasCome (keeps_in (asking_of e).question) e.kept had
 
-  read_later : (old new : Exchange I H R) (given : Result (Response (Full (List ℕ))) Error) →
+  abbrev pub GivesOption : Exchange I H R → Result (Response (Full (List ℕ))) Error → Option Refusal → Type 0
+  GivesOption e given refusal =
+      MatchOption refusal ((had : List ℕ) → CameOf e had → GivesRead answers e had given)
+      (λ refusal. IsRefused e.fields refusal given)
+
+  ends_then : (old new : Exchange I H R) (had has : List ℕ) (reading : Reading) (all : List ℕ) → IsFalse old.is_too_long
+      → new.is_too_long ≡ old.is_too_long → GoesOn (pieces_of old.body) had (pieces_of new.body) has
+      → ReadsSo new has reading all → ReadsSo old had reading all
+  ends_then old new had has reading all isnt told on (inl (is, long)) = absurd (cc)
+  ends_then old new had has reading all isnt told on (inr (still, ends)) =
+      inr (isnt, ends_later (pieces_of old.body) had (pieces_of new.body) has on reading all ends)
+
+  read_later : (old new : Exchange I H R) (had has : List ℕ) (given : Result (Response (Full (List ℕ))) Error) →
       IsFalse old.is_too_long → new.is_too_long ≡ old.is_too_long → asking_of new ≡ asking_of old
-      → GoesOn (pieces_of old.body) old.read.items (pieces_of new.body) new.read.items
-      → GivesRead answers new given → GivesRead answers old given
-  read_later old new given isnt told same on gives =
+      → GoesOn (pieces_of old.body) had (pieces_of new.body) has
+      → GivesRead answers new has given → GivesRead answers old had given
+  read_later old new had has given isnt told same on gives =
       record {
         reading = gives.reading;
         body = gives.body;
-        ends = ends_then old new gives.reading gives.body isnt told on gives.ends;
+        ends = ends_then old new had has gives.reading gives.body isnt told on gives.ends;
         answered = subst (λ a. IsAnswered answers a gives.reading gives.body given) same gives.answered;
       }
 
   pub gives_later : (old new : Exchange I H R) (given : Result (Response (Full (List ℕ))) Error) →
       old.refusal ≡ None → new.refusal ≡ old.refusal → IsFalse old.is_too_long
       → new.is_too_long ≡ old.is_too_long → asking_of new ≡ asking_of old
-      → GoesOn (pieces_of old.body) old.read.items (pieces_of new.body) new.read.items
+      → GoesFrom (pieces_of old.body) old.kept (pieces_of new.body) new.kept
       → Gives answers new given →
       Gives answers old given
-  gives_later old new given none kept isnt told same on gives =
-      subst (λ o. MatchOption o (GivesRead answers old given) (λ refusal. IsRefused old.fields refusal given)) (sym none)
-      (read_later old new given isnt told same on
-      (subst (λ o. MatchOption o (GivesRead answers new given) (λ refusal. IsRefused new.fields refusal given))
-      (kept ∙ none) gives))
+  gives_later old new given none stays isnt told same on gives =
+      subst (GivesOption old given) (sym none) (λ had h.
+      let next = on (keeps_in (asking_of old).question) had h in
+      read_later old new had next.0 given isnt told same next.1
+      ((subst (GivesOption new given) (stays ∙ none) gives) next.0
+      (subst (λ a. HasCome (keeps_in a.question) new.kept next.0) (sym same) next.2)))
+
+  -- by how its reading ended it is answered
+  pub gives_read : (old mid : Exchange I H R) (reading : Reading) (given : Result (Response (Full (List ℕ))) Error)
+      → old.refusal ≡ None → IsFalse old.is_too_long → asking_of mid ≡ asking_of old
+      → EndsFrom (pieces_of old.body) old.kept reading mid.kept
+      → ((came : List ℕ) → CameOf mid came → IsAnswered answers (asking_of mid) reading came given)
+      → Gives answers old given
+  gives_read old mid reading given none isnt same ends answered =
+      subst (GivesOption old given) (sym none) (λ had h.
+      let end = ends (keeps_in (asking_of old).question) had h in
+      record {
+        reading = reading;
+        body = end.0;
+        ends = inr (isnt, end.1);
+        answered = subst (λ a. IsAnswered answers a reading end.0 given) same
+            (answered end.0 (subst (λ a. HasCome (keeps_in a.question) mid.kept end.0) (sym same) end.2));
+      })
+
+  -- a body that is told to be too long is answered so
+  pub gives_long : (old : Exchange I H R) (given : Result (Response (Full (List ℕ))) Error)
+      → old.refusal ≡ None → IsTrue old.is_too_long
+      → ((came : List ℕ) → CameOf old came → IsAnswered answers (asking_of old) readings.TooLong came given)
+      → Gives answers old given
+  gives_long old given none is answered =
+      subst (GivesOption old given) (sym none) (λ had h.
+      record { reading = readings.TooLong; body = had; ends = inl (is, refl); answered = answered had h })
 
   -- a head that is refused is answered so
   pub refused_so : (e : Exchange I H R) (refusal : Refusal) (reply : HttpReply) (labels : Labels)
@@ -139,5 +208,5 @@ module _ {I H R : Type 0} (answers : H → RequestValue → Row → List ℕ →
       → IsReply (refusal_reply refusal) (http_value reply) → labels ≡ refusal_labels refusal
       → Responds e.fields (λ _. labels) (Ok reply) given → Gives answers e given
   refused_so e refusal reply labels given is replies plain responds =
-      subst (λ o. MatchOption o (GivesRead answers e given) (λ r. IsRefused e.fields r given)) (sym is)
+      subst (GivesOption e given) (sym is)
       (reply, replies, subst (λ (l : Labels). Responds e.fields (λ _. l) (Ok reply) given) plain responds)

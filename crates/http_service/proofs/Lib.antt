@@ -4,5 +4,9 @@ mod Endings
 mod Exchanges
 mod Fields
 mod Joined
+mod Loopback
 mod Marks
+mod Pieces
 mod Ports
+mod Questions
+mod Blocks

@@ -3,7 +3,7 @@ use Rattle.std.proofs.Common.{◌≡◌, ℕ, Bool, true, false, List, refl, is_
 use Rattle.std.specs.Str.{IsUtf8, is_utf8}
 use Rattle.std.proofs.lemmas.Str.{IsUtf8-from_is_utf8, is_utf8-from_IsUtf8}
 use Rattle.decimals.specs.Decimals.{number_of}
-use Rattle.http_service.specs.Heads.{is_port}
+use Rattle.http_service.specs.Hosts.{is_port}
 
 is_utf8-from_not : (bytes : List ℕ) → ¬ (IsUtf8 bytes) → (b : Bool) → is_utf8 bytes ≡ b → b ≡ false
 is_utf8-from_not bytes isnt true e = absurd (isnt (IsUtf8-from_is_utf8 bytes e))

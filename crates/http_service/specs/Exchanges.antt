@@ -1,5 +1,5 @@
 -- What a request comes to whose body comes in frames.
-use Rattle.std.specs.Prelude.{◌≡◌, ◌⊎◌, ◌==◌, if◌then◌else◌, ◌<◌, ◌+◌, ◌++◌, ℕ, List, [], length, map, nat_lt, Option, Some, None, Result, Ok, Err, MatchBool, MatchOption, codes, option_map, IsSomeAnd, IsTrue, IsFalse, ◌↔◌}
+use Rattle.std.specs.Prelude.{◌≡◌, ◌⊎◌, ◌==◌, if◌then◌else◌, ◌<◌, ◌+◌, ◌++◌, ℕ, List, [], length, map, nat_lt, vec_capacity, Option, Some, None, Result, Ok, Err, MatchBool, MatchOption, codes, option_map, IfSome, IsSomeAnd, IsTrue, IsFalse, ◌↔◌}
 use Rattle.std.specs.Arc.{arc_value}
 use Rattle.message_format.specs.Spelling.{max_message}
 use Rattle.futures.specs.Runs.{Runs}
@@ -17,28 +17,42 @@ use Rattle.http_body_util.specs.declared.limited.Limited.{Limited}
 use Rattle.http_body_util.specs.declared.limited.LimitedError.{LimitedError}
 use Rattle.http_body_util.specs.declared.limited.LimitedError.TheVariants.{LengthLimit, Body}
 use Rattle.http_body_util.specs.Limited.{Limits}
-use Rattle.http_routes.specs.Asked.{AskedValue, RequestValue, nowhere, other_method, known, asked_of, asked_value}
+use Rattle.http_routes.specs.Asked.{AskedValue, RequestValue, nowhere, other_method, known, asked_of, asked_value, keeps_of}
+use Rattle.http_routes.specs.Bodies.{IsKept}
+use Rattle.http_routes.specs.declared.table.Keeps.{Keeps}
+use Rattle.http_routes.specs.declared.table.Keeps.TheVariants.{Nothing}
 use Rattle.http_routes.specs.declared.request.RequestFault.TheVariants as faults
 use Rattle.http_routes.specs.declared.table.Row.{Row}
 use Rattle.http_routes.specs.declared.http_reply.HttpReply.{HttpReply}
-use Rattle.http_routes.specs.Replies.{ReplyValue, IsReply, http_value, no_memory, request_fault_reply}
+use Rattle.http_routes.specs.Replies.{ReplyValue, IsReply, http_value, no_memory, request_fault_reply, text_reply}
 use Rattle.http.specs.Uri.{uri_path}
 use Rattle.hyper.specs.declared.body.incoming.Incoming.{Incoming}
 use Rattle.hyper.specs.declared.error.Error.{Error}
 use Rattle.hyper.specs.declared.error.Kind.TheVariants as kinds
 use Rattle.hyper.specs.Error.{kind_of}
 use Rattle.hyper.specs.Incoming.{IncomingYields, size_left}
+use Rattle.http_service.specs.declared.connection.Offer.{Offer}
 use Rattle.http_service.specs.declared.exchange.ConnectionService.{ConnectionService}
 use Rattle.http_service.specs.declared.exchange.Exchange.{Exchange}
 use Rattle.http_service.specs.declared.exchange.Reading.{Reading}
+use Rattle.http_service.specs.declared.heads.Admitted.{Admitted}
 use Rattle.http_service.specs.declared.heads.Refusal.{Refusal}
 use Rattle.http_service.specs.declared.labels.Labels.{Labels}
+use Rattle.http_service.specs.declared.kept_body.KeptBody.{KeptBody}
 use Rattle.http_service.specs.declared.question.Question.{Question}
+use Rattle.http_service.specs.Keeping.{HasCome}
 use Rattle.http_service.specs.Labels.{label_fields, labels_of, plain_labels, with_tag}
 use Rattle.http_service.specs.Tags.{is_had, tag_of}
 use Rattle.http_service.specs.Heads.{refusal_labels, refusal_of, refusal_reply}
-use Rattle.http_service.specs.Keys.{credentials_in, key_need}
+use Rattle.http_service.specs.Seals.{is_altered}
+use Rattle.http_service.specs.Hosts.{authority_of}
+use Rattle.http_service.specs.Keys.{key_in, key_need}
 use Rattle.http_service.specs.declared.exchange.Reading.TheVariants as readings
+
+-- a connection's requests are those of the routes that are offered, of who has the access that is
+pub record IsOffered {H R : Type 0} (offer : Offer) (service : ConnectionService H R) : Type 0 where
+  pub routes : service.set ≡ offer.set
+  pub access : key_in service.access ≡ key_in offer.access.now
 
 -- a frame of a body, or why there is none
 abbrev pub Piece : Type 0
@@ -64,7 +78,7 @@ GoesOn source had rest has =
     (frames : List (Frame (List ℕ))) × (has ≡ had ++ joined_data frames)
     × ((xs : List Piece) (last : Option Piece) → rest xs last → source (map Ok frames ++ xs) last)
 
--- how the reading of the body may end, and what was read then: whole is what came up to the body's end, each byte of it
+-- how the reading of the body may end, and what came then: whole is what came up to the body's end, each byte of it
 abbrev pub EndsSo : Runs Piece → List ℕ → Reading → List ℕ → Type 0
 EndsSo source had readings.Whole has =
     (frames : List (Frame (List ℕ))) × (has ≡ had ++ joined_data frames) × source (map Ok frames) None
@@ -74,6 +88,22 @@ EndsSo source had (readings.Broken error) has =
     (frames : List (Frame (List ℕ))) × source (map Ok frames) (Some (Err (Body error)))
 EndsSo source had readings.NoMemory has = Unit {0}
 
+-- The same of a body of which this is kept: whatever came of it before, that and the frame's bytes came now.
+abbrev pub TakesFrom : Option Piece → KeptBody → KeptBody → Option Reading → Type 0
+TakesFrom piece old new ended =
+    (keeps : Keeps) (had : List ℕ) → HasCome keeps old had
+    → (has : List ℕ) × TakesIn (vec_capacity old.read) piece had has ended × HasCome keeps new has
+
+abbrev pub GoesFrom : Runs Piece → KeptBody → Runs Piece → KeptBody → Type 0
+GoesFrom source old rest new =
+    (keeps : Keeps) (had : List ℕ) → HasCome keeps old had
+    → (has : List ℕ) × GoesOn source had rest has × HasCome keeps new has
+
+abbrev pub EndsFrom : Runs Piece → KeptBody → Reading → KeptBody → Type 0
+EndsFrom source old reading new =
+    (keeps : Keeps) (had : List ℕ) → HasCome keeps old had
+    → (has : List ℕ) × EndsSo source had reading has × HasCome keeps new has
+
 -- its head tells that a body is longer than the longest
 abbrev pub TellsTooLong : {I : Type 0} → Incoming I → Type 0
 TellsTooLong body = IsSomeAnd (size_left body.kind) (λ told. max_message < told)
@@ -82,36 +112,55 @@ TellsTooLong body = IsSomeAnd (size_left body.kind) (λ told. max_message < told
 pub record QuestionValue (H : Type 0) : Type 0 where
   pub handler : H
   pub asked : AskedValue
+  -- the key with which messages have to be sealed, if there is one
+  pub key : Option (List ℕ)
 
 abbrev pub question_value : {H : Type 0} → Question H → QuestionValue H
 question_value question =
-    record { handler = arc_value question.handler; asked = asked_value question.asked }
+    record {
+      handler = arc_value question.handler;
+      asked = asked_value question.asked;
+      key = key_in question.access;
+    }
 
 -- what is asked of a handler, if there is one
-abbrev pub question_to : {H : Type 0} → Option H → AskedValue → Option (QuestionValue H)
-question_to handler asked = option_map (λ h. record { handler = h; asked = asked }) handler
+abbrev pub question_to : {H : Type 0} → Option H → Option (List ℕ) → AskedValue → Option (QuestionValue H)
+question_to handler key asked = option_map (λ h. record { handler = h; asked = asked; key = key }) handler
 
 -- a question, or none where there was no memory, and the fields of the head
 pub record Asking (H : Type 0) : Type 0 where
   pub question : Option (QuestionValue H)
   pub fields : Entries FieldValue
 
--- The reply to what a request asks for, with this body: it says why nothing is asked of the handler, or it is what the
--- handler may answer.
-abbrev pub AnswersAsked : (RequestValue → Row → List ℕ → ReplyValue → Type 0) → AskedValue → List ℕ → ReplyValue →
-    Type 0
-AnswersAsked answers nowhere body given = IsReply (request_fault_reply faults.NotFound) given
-AnswersAsked answers (other_method methods) body given = IsReply (request_fault_reply faults.BadMethod) given
-AnswersAsked answers (known request row) body given =
-    MatchBool (nat_lt max_message (length body)) (IsReply (request_fault_reply faults.TooLong) given)
-    (answers request row body given)
+-- what is kept of the body of a question; nobody is asked with anything
+abbrev pub keeps_in : {H : Type 0} → Option (QuestionValue H) → Keeps
+keeps_in None = Nothing
+keeps_in (Some question) = keeps_of question.asked
+
+-- the reply to a message that isn't as it was sent
+abbrev pub bad_digest : ReplyValue
+bad_digest = text_reply 400 (codes "bad digest")
+
+module _ (answers : RequestValue → Row → List ℕ → ReplyValue → Type 0) (key : Option (List ℕ))
+    (fields : Entries FieldValue) where
+  -- The reply to what a request with these fields asks for of a service with this key, if it has one, with this body: it
+  -- says why nothing is asked of the handler, or it is what the handler may answer to what its route keeps of the body.
+  -- A message that isn't as it was sent is one of which nothing is asked.
+  abbrev pub AnswersAsked : AskedValue → List ℕ → ReplyValue → Type 0
+  AnswersAsked nowhere body given = IsReply (request_fault_reply faults.NotFound) given
+  AnswersAsked (other_method methods) body given = IsReply (request_fault_reply faults.BadMethod) given
+  AnswersAsked (known request row) body given =
+      MatchBool (nat_lt max_message (length body)) (IsReply (request_fault_reply faults.TooLong) given)
+      ((kept : List ℕ) × IsKept row.keeps body kept
+      × MatchBool (is_altered row.kind key fields kept) (IsReply bad_digest given) (answers request row kept given))
 
 module _ {H : Type 0} (answers : H → RequestValue → Row → List ℕ → ReplyValue → Type 0) where
   -- the reply to a question with this body; where there is none, that there was no memory
   abbrev pub IsAnswerTo : Asking H → List ℕ → ReplyValue → Type 0
   IsAnswerTo asking body given =
       MatchOption asking.question (given ≡ no_memory)
-      (λ question. AnswersAsked (answers question.handler) question.asked body given)
+      (λ question.
+      AnswersAsked (answers question.handler) question.key asking.fields question.asked body given)
 
   -- What a request comes to by how its body's reading ended. Of a body that is longer than the longest the reply is one
   -- to any such body; a broken one has none.
@@ -185,34 +234,52 @@ module _ {I H R : Type 0} where
   abbrev pub asked_by : ConnectionService H R → Request (Incoming I) → AskedValue
   asked_by service req = asked_of service.set (request.head_of req).method (uri_path (request.head_of req).uri)
 
+  -- why the head of a request is refused, if it is
+  abbrev pub refusal_to : ConnectionService H R → Request (Incoming I) → Option Refusal
+  refusal_to service req =
+      refusal_of (key_in service.access) (key_need (asked_by service req)) service.port
+      (authority_of (request.head_of req).uri) (request.head_of req).headers
+
+  -- what shows that the head of a request is let in: it was given for this head, which the service doesn't refuse
+  pub record IsAdmitted (service : ConnectionService H R) (req : Request (Incoming I)) (admitted : Admitted) :
+      Type 0 where
+    pub need : admitted.need ≡ key_need (asked_by service req)
+    pub let_in : refusal_to service req ≡ None
+
   -- the exchange of a request: it asks the service's handler for what the request asks for, or nobody where the head or
   -- memory was refused; the body is the request's, up to the longest one, and nothing of it is read yet
   pub record IsExchangeOf (service : ConnectionService H R) (req : Request (Incoming I)) (e : Exchange I H R) :
       Type 0 where
-    pub refusal : e.refusal ≡ refusal_of (credentials_in service.access)
-        (key_need (asked_by service req)) service.port (request.head_of req).headers
+    pub refusal : e.refusal ≡ refusal_to service req
     pub asks : ((e.refusal ≡ None) × ((asking_of e).question
-        ≡ question_to (option_map arc_value service.handler) (asked_by service req)))
+        ≡ question_to (option_map arc_value service.handler) (key_in service.access) (asked_by service req)))
         ⊎ ((asking_of e).question ≡ None)
+    pub admitted : IfSome e.question (λ question. IsAdmitted service req question.admitted)
     pub fields : e.fields ≡ (request.head_of req).headers
     pub told : IsTrue e.is_too_long ↔ TellsTooLong (request.body_of req)
     pub body : e.body ≡ record { remaining = max_message; inner = request.body_of req }
-    pub read : e.read.items ≡ []
+    pub kept : HasCome (keeps_in (asking_of e).question) e.kept []
 
-  -- how the reading of what is left of the body ends: where its head tells that it is too long, nothing of it is read
-  abbrev pub ReadsSo : Exchange I H R → Reading → List ℕ → Type 0
-  ReadsSo e reading has =
+  -- how the reading of a body ends of which these bytes came before: where its head tells that it is too long, nothing of
+  -- it is read
+  abbrev pub ReadsSo : Exchange I H R → List ℕ → Reading → List ℕ → Type 0
+  ReadsSo e had reading has =
       (IsTrue e.is_too_long × (reading ≡ readings.TooLong))
-      ⊎ (IsFalse e.is_too_long × EndsSo (pieces_of e.body) e.read.items reading has)
+      ⊎ (IsFalse e.is_too_long × EndsSo (pieces_of e.body) had reading has)
 
   module _ (answers : H → RequestValue → Row → List ℕ → ReplyValue → Type 0) where
-    -- the reading of what is left of the body ends so, and what is given is by that
-    pub record GivesRead (e : Exchange I H R) (given : Result (Response (Full (List ℕ))) Error) : Type 0 where
+    -- the reading of a body ends so of which these bytes came before, and what is given is by that, and by the whole body
+    pub record GivesRead (e : Exchange I H R) (had : List ℕ) (given : Result (Response (Full (List ℕ))) Error) :
+        Type 0 where
       pub reading : Reading
       pub body : List ℕ
-      pub ends : ReadsSo e reading body
+      pub ends : ReadsSo e had reading body
       pub answered : IsAnswered answers (asking_of e) reading body given
 
-    -- The same; where the head was refused, nobody is asked and nothing of the body is read: what is given says why.
+    -- The same whatever came before; where the head was refused, nobody is asked and nothing of the body is read: what is
+    -- given says why.
     abbrev pub Gives : Exchange I H R → Result (Response (Full (List ℕ))) Error → Type 0
-    Gives e given = MatchOption e.refusal (GivesRead e given) (λ refusal. IsRefused e.fields refusal given)
+    Gives e given =
+        MatchOption e.refusal
+        ((had : List ℕ) → HasCome (keeps_in (asking_of e).question) e.kept had → GivesRead e had given)
+        (λ refusal. IsRefused e.fields refusal given)

@@ -1,10 +1,7 @@
 -- Which heads are answered before anything is asked, and how.
-use Rattle.std.specs.Prelude.{◌==◌, ◌&&◌, ◌||◌, ◌++◌, ℕ, Bool, true, false, not, is_some, List, [], ◌∷◌, length, take, drop, map, codes, decimal, bytes_eq, if◌then◌else◌, Option, Some, None}
+use Rattle.std.specs.Prelude.{◌&&◌, ◌||◌, ◌++◌, ℕ, Bool, true, false, not, is_some, List, codes, decimal, bytes_eq, if◌then◌else◌, Option, Some, None}
 use Rattle.std.specs.List.{list_all}
 use Rattle.std.specs.Option.{option_or}
-use Rattle.std.specs.Str.{is_utf8}
-use Rattle.std.specs.Char.{to_ascii_lowercase}
-use Rattle.decimals.specs.Decimals.{number_of}
 use Rattle.http_header.specs.FieldValue.{FieldValue}
 use Rattle.http_header.specs.HeaderMap.{Entries, get_all}
 use Rattle.http_routes.specs.Replies.{ReplyValue, text_reply}
@@ -13,44 +10,25 @@ use Rattle.http_service.specs.declared.access.KeyNeed.TheVariants.{Needed, Waive
 use Rattle.http_service.specs.declared.heads.Refusal.{Refusal}
 use Rattle.http_service.specs.declared.heads.Refusal.TheVariants.{NoKey, ForeignHost, ForeignOrigin, OtherCoding}
 use Rattle.http_service.specs.declared.labels.Labels.{Labels}
-use Rattle.http_service.specs.Keys.{has_credentials}
+use Rattle.http_service.specs.Hosts.{host_of, names_this_machine}
+use Rattle.http_service.specs.Keys.{has_key}
 use Rattle.http_service.specs.Labels.{key_labels, plain_labels}
-
--- the same bytes, but for small and capital letters
-abbrev pub is_alike : List ℕ → List ℕ → Bool
-is_alike a b = bytes_eq (map to_ascii_lowercase a) (map to_ascii_lowercase b)
-
--- a text of digits, with the value of a port
-abbrev pub is_port : List ℕ → Bool
-is_port digits = is_utf8 digits && is_some (number_of 65535 digits)
-
--- nothing, or a colon and a port
-abbrev pub may_end_host : List ℕ → Bool
-may_end_host [] = true
-may_end_host (byte ∷ port) = byte == 58 && is_port port
-
--- a name, with or without a port
-abbrev pub is_at : List ℕ → List ℕ → Bool
-is_at name host = is_alike (take (length name) host) name && may_end_host (drop (length name) host)
-
--- a name of this machine, with or without a port
-abbrev pub is_this_machine : List ℕ → Bool
-is_this_machine host =
-    is_at (codes "localhost") host || is_at (codes "127.0.0.1") host || is_at (codes "[::1]") host
+use Rattle.http_service.specs.Letters.{is_alike}
 
 -- the address at which a node is served at this port
 abbrev pub is_served_address : ℕ → List ℕ → Bool
 is_served_address port origin = bytes_eq origin (codes "http://127.0.0.1:" ++ decimal port)
 
--- a page of this host, by http, or by https where something that encrypts stands in front
-abbrev pub is_of_host : Option (List ℕ) → List ℕ → Bool
-is_of_host None origin = false
-is_of_host (Some host) origin =
-    bytes_eq origin (codes "http://" ++ host) || bytes_eq origin (codes "https://" ++ host)
+-- a page of this host, by http, or, at a service with a key, by https, where something that encrypts stands in front
+abbrev pub is_of_host : Bool → Option (List ℕ) → List ℕ → Bool
+is_of_host is_keyed None origin = false
+is_of_host is_keyed (Some host) origin =
+    bytes_eq origin (codes "http://" ++ host) || (is_keyed && bytes_eq origin (codes "https://" ++ host))
 
--- a page of the service itself
-abbrev pub is_own_page : ℕ → Option (List ℕ) → List ℕ → Bool
-is_own_page port host origin = is_served_address port origin || is_of_host host origin
+-- A page of the service itself: at its address, or at the host that the request names. Where there is no key, that is
+-- this machine: whoever gives it a name of his own could have a page of that name.
+abbrev pub is_own_page : ℕ → Bool → Option (List ℕ) → List ℕ → Bool
+is_own_page port is_keyed host origin = is_served_address port origin || is_of_host is_keyed host origin
 
 abbrev pub is_chunked : List ℕ → Bool
 is_chunked coding = is_alike coding (codes "chunked")
@@ -59,35 +37,27 @@ is_chunked coding = is_alike coding (codes "chunked")
 abbrev pub all_pass : (List ℕ → Bool) → List ℕ → Entries FieldValue → Bool
 all_pass test name fields = list_all (λ value. test value.bytes) (get_all fields name)
 
--- who isn't let in: without the key of a service that has one, unless the request needs none, and else from another
--- machine's page
-abbrev pub stranger : Option (List ℕ) → KeyNeed → Entries FieldValue → Option Refusal
-stranger None need fields = if all_pass is_this_machine (codes "host") fields then None else Some ForeignHost
-stranger (Some credentials) Waived fields = None
-stranger (Some credentials) Needed fields = if has_credentials credentials fields then None else Some NoKey
-
-abbrev pub only_one : List FieldValue → Option (List ℕ)
-only_one (value ∷ []) = Some value.bytes
-only_one _ = None
-
--- whose pages are the service's own too: those of its one `Host`, where it has a key. Where it has none, whoever gives
--- this machine a name of his own could have a page of that name.
-abbrev pub own_host : Option (List ℕ) → Entries FieldValue → Option (List ℕ)
-own_host None fields = None
-own_host (Some credentials) fields = only_one (get_all fields (codes "host"))
+-- who isn't let in: without the key of a service that has one, unless the request needs none, and else who names
+-- another machine
+abbrev pub stranger : Option (List ℕ) → KeyNeed → Option (List ℕ) → Entries FieldValue → Option Refusal
+stranger None need authority fields = if names_this_machine authority fields then None else Some ForeignHost
+stranger (Some key) Waived authority fields = None
+stranger (Some key) Needed authority fields = if has_key key fields then None else Some NoKey
 
 -- what is refused else: another page, or another coding
-abbrev pub refusal_behind : ℕ → Option (List ℕ) → Entries FieldValue → Option Refusal
-refusal_behind port host fields =
-    if not (all_pass (is_own_page port host) (codes "origin") fields) then Some ForeignOrigin
+abbrev pub refusal_behind : ℕ → Bool → Option (List ℕ) → Entries FieldValue → Option Refusal
+refusal_behind port is_keyed host fields =
+    if not (all_pass (is_own_page port is_keyed host) (codes "origin") fields) then Some ForeignOrigin
     else (if not (all_pass is_chunked (codes "transfer-encoding") fields) then Some OtherCoding else None)
 
--- why a head with these fields is refused by a service with these credentials, if it has a key, at this port
-abbrev pub refusal_of : Option (List ℕ) → KeyNeed → ℕ → Entries FieldValue → Option Refusal
-refusal_of credentials need port fields =
-    option_or (stranger credentials need fields) (refusal_behind port (own_host credentials fields) fields)
+-- why a head with these fields, whose target has this authority, if it has one, is refused by a service with this key, if
+-- it has one, at this port
+abbrev pub refusal_of : Option (List ℕ) → KeyNeed → ℕ → Option (List ℕ) → Entries FieldValue → Option Refusal
+refusal_of key need port authority fields =
+    option_or (stranger key need authority fields)
+    (refusal_behind port (is_some key) (host_of authority fields) fields)
 
--- what such a head is answered
+-- what a head that is refused is answered
 abbrev pub refusal_reply : Refusal → ReplyValue
 refusal_reply NoKey =
     text_reply 401 (codes "missing or wrong key: send Authorization: Bearer and the key in hex")

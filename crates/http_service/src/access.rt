@@ -4,9 +4,10 @@ ghost use Rattle.std.specs.Prelude.{◌≡◌, ◌↔◌, ◌<◌, length, bytes
 ghost use Rattle.std.specs.Prelude.{Some, None, string_bytes};
 ghost use Rattle.std.specs.Arc.{arc_value};
 ghost use Rattle.http_routes.specs.Asked.{asked_value};
-ghost use Rattle.http_service.specs.Keys.{are_said, credentials_in, credentials_of, has_credentials, key_need};
+ghost use Rattle.http_service.specs.Keys.{are_credentials, has_key, key_in, key_need};
 
-use hex::encode;
+use crate::key::Key;
+use crate::letters::is_like;
 use http::header::{AUTHORIZATION, HeaderMap};
 use http_routes::{Asked, Request};
 use std::alloc::{AllocError, Global};
@@ -14,6 +15,9 @@ use std::sync::Arc;
 
 /// The fewest bytes that a key has.
 const SHORTEST_KEY: usize = 32;
+
+/// The scheme of an `Authorization` that has the key, and the space after it.
+const SCHEME: &[u8] = b"Bearer ";
 
 /// Why bytes are no key.
 #[derive(Clone, Copy, Debug, PartialEq, Eq)]
@@ -45,60 +49,55 @@ pub enum KeyNeed {
 /// Who may ask a service: whoever is on this machine, or whoever has its key. Nothing shows the key.
 #[derive(Drop)]
 pub struct Access {
-    // What the `Authorization` of a request says that has the key, if there is one.
-    credentials: Option<Arc<String>>,
+    key: Option<Arc<Key>>,
 }
 
 impl Access {
     /// Of a service that whoever is on this machine may ask, but no page of a browser.
     pub fn of_this_machine() -> Access
-        ensures { credentials_in result ≡ None }
+        ensures { key_in result ≡ None }
     {
-        Access { credentials: None }
+        Access { key: None }
     }
 
     /// Of a service that may be asked by whoever has this key, from wherever. It has at least 32
     /// bytes.
     pub fn by_key(alloc: Global, key: &[u8]) -> Result<Access, KeyFault>
-        ensures ok { IfOk result (λ access. credentials_in access ≡ Some (credentials_of key.now)) }
+        ensures ok { IfOk result (λ access. key_in access ≡ Some key.now) }
         ensures too_short { IsErrOf result KeyFault.TooShort ↔ (length key.now < 32) }
     {
         if key.len() < SHORTEST_KEY {
             return Err(KeyFault::TooShort);
         }
-        let credentials = shared_credentials(alloc, key)?;
-        Ok(Access {
-            credentials: Some(credentials),
-        })
+        let key = shared_key(alloc, key)?;
+        Ok(Access { key: Some(key) })
     }
 
-    /// The same for one more connection. `None` where it can't be shared any more.
+    /// The same for one more connection or request. `None` where it can't be shared any more.
     pub(crate) fn again(&self) -> Option<Access>
-        ensures { IfSome result (λ access. credentials_in access ≡ credentials_in self.now) }
+        ensures { IfSome result (λ access. key_in access ≡ key_in self.now) }
     {
-        let credentials = match &self.credentials {
-            Some(credentials) => Some(Arc::try_clone(credentials).ok()?),
+        let key = match &self.key {
+            Some(key) => Some(Arc::try_clone(key).ok()?),
             None => None,
         };
-        Some(Access { credentials })
+        Some(Access { key })
     }
 
-    /// What the `Authorization` of a request says that has the key, if there is one.
-    pub(crate) fn credentials(&self) -> Option<&[u8]>
-        ensures { option_map (λ bytes. bytes.now) result ≡ credentials_in self.now }
+    /// The key, if there is one.
+    pub(crate) fn key(&self) -> Option<&Key>
+        ensures { option_map (λ key. key.now.bytes.items) result ≡ key_in self.now }
     {
-        let credentials: &String = self.credentials.as_ref()?;
-        Some(credentials.as_bytes())
+        let key: &Key = self.key.as_ref()?;
+        Some(key)
     }
 }
 
-// What the `Authorization` of a request says that has this key.
-fn shared_credentials(alloc: Global, key: &[u8]) -> Result<Arc<String>, AllocError>
-    ensures { IfOk result (λ text. string_bytes (arc_value text) ≡ credentials_of key.now) }
+fn shared_key(alloc: Global, key: &[u8]) -> Result<Arc<Key>, AllocError>
+    ensures { IfOk result (λ shared. (arc_value shared).bytes.items ≡ key.now) }
 {
-    let digits = encode(alloc, key)?;
-    let credentials = format!(in alloc; "Bearer {digits}")?;
-    Ok(Arc::new(alloc, credentials)?)
+    let key = Key::new(alloc, key)?;
+    Ok(Arc::new(alloc, key)?)
 }
 
 /// Whether a request needs the key of a service that has one. Anybody may see the operator's page.
@@ -114,20 +113,28 @@ pub(crate) fn key_need(asked: &Asked<'_>) -> KeyNeed
     }
 }
 
-/// Whether a head with these fields has these credentials, once.
-pub(crate) fn has_credentials(fields: &HeaderMap, credentials: &[u8]) -> bool
-    ensures { result ≡ has_credentials credentials.now fields.now }
+// Whether the value of an `Authorization` has this key.
+fn are_credentials(value: &[u8], key: &Key) -> bool
+    ensures { result ≡ are_credentials key.now.bytes.items value.now }
+{
+    let (scheme, digits) = value.split_at(SCHEME.len().min(value.len()));
+    is_like(scheme, SCHEME) && is_same(digits, key.digits())
+}
+
+/// Whether a head with these fields has this key, once.
+pub(crate) fn has_key(fields: &HeaderMap, key: &Key) -> bool
+    ensures { result ≡ has_key key.now.bytes.items fields.now }
 {
     let mut said = fields.get_all(AUTHORIZATION).iter();
     match (said.next(), said.next()) {
-        (Some(value), None) => is_same(value.as_bytes(), credentials),
+        (Some(value), None) => are_credentials(value.as_bytes(), key),
         _ => false,
     }
 }
 
-// Whether these are the same bytes. It looks at each of them: how long that takes says how many there
-// are, and not where they differ.
-fn is_same(sent: &[u8], wanted: &[u8]) -> bool
+/// Whether these are the same bytes. It looks at each of them: how long that takes says how many there
+/// are, and not where they differ.
+pub(crate) fn is_same(sent: &[u8], wanted: &[u8]) -> bool
     ensures { result ≡ bytes_eq sent.now wanted.now }
 {
     if sent.len() != wanted.len() {

@@ -7,11 +7,13 @@ ghost use Rattle.tokio.specs.Timers.{IsDelayedBy, sleep_deadline, timeout_delay,
 ghost use Rattle.tokio.specs.Locks.{CanAcquire};
 ghost use Rattle.http_service.specs.Clients.{AreLetIn, IsGone, LetsIn};
 
+use crate::access::Access;
 use crate::fault::ServeFault;
 use crate::permits::{AllBack, Permits};
 use futures::executor::TaskSet;
 use futures::task::{Context, Poll};
 use futures::{Future, ready};
+use http_routes::RouteSet;
 use std::io;
 use std::io::ErrorKind;
 use std::net::SocketAddr;
@@ -23,9 +25,21 @@ use tokio::time::{Handle, Sleep, Timeout};
 // Connections that one poll accepts before it lets tasks run.
 const BUDGET: u32 = 128;
 
+/// What clients are let in to: the routes that a service offers, and who may ask.
+#[derive(Clone, Copy)]
+pub struct Offer<'a> {
+    pub set: RouteSet,
+    pub access: &'a Access,
+}
+
 /// Makes the task of a connection.
 pub trait ConnectionFactory: Drop {
+    ghost use Rattle.http_service.specs.declared.connection.Offer.{Offer};
+
     type Task: Future<Output = ()> + Send;
+
+    /// Whether this is what its connections let clients in to.
+    ghost offers: { Self → Offer → Type 0 };
 
     /// `None` where there is no memory.
     fn open(&self, socket: TcpStream, permit: OwnedSemaphorePermit) -> Option<Self::Task>
@@ -83,30 +97,40 @@ where
     }
 }
 
-/// How many clients were let in.
+/// How many clients were let in, and to what. Only what lets them in makes it, so it shows with which
+/// access they were served.
 #[derive(Clone, Copy)]
-pub struct Clients {
+pub struct Clients<'a> {
     let_in: u32,
+    offer: Offer<'a>,
 }
 
-impl Clients {
-    pub fn none() -> Clients
-        ensures { result.let_in ≡ 0 }
+impl<'a> Clients<'a> {
+    fn none(offer: Offer<'a>) -> Clients<'a>
+        ensures { result ≡ record { let_in = 0; offer = offer.entry } }
     {
-        Clients { let_in: 0 }
+        Clients { let_in: 0, offer }
     }
 
+    /// How many clients were let in.
     pub fn count(&self) -> u32
         ensures { result ≡ self.now.let_in }
     {
         self.let_in
     }
+
+    /// What they were let in to.
+    pub fn offer(&self) -> Offer<'a>
+        ensures { result ≡ self.now.offer }
+    {
+        self.offer
+    }
 }
 
 /// Accepts so many connections, and starts the task of each.
 #[derive(Drop)]
-pub struct Accepting<'a, F: ConnectionFactory> {
-    pub tasks: &'a TaskSet<F::Task>,
+pub struct Accepting<'t, 'a, F: ConnectionFactory> {
+    pub tasks: &'t TaskSet<F::Task>,
     pub listener: TcpListener,
     pub factory: F,
     pub permits: Permits,
@@ -115,20 +139,23 @@ pub struct Accepting<'a, F: ConnectionFactory> {
     /// The rest since the last one couldn't be accepted.
     pub rest: Option<Sleep>,
     pub wanted: u32,
-    pub clients: Clients,
+    pub clients: Clients<'a>,
 }
 
-impl<'a, F: ConnectionFactory> Accepting<'a, F> {
-    /// Where none was accepted yet.
+impl<'t, 'a, F: ConnectionFactory> Accepting<'t, 'a, F> {
+    /// Where none was accepted yet, and clients are let in to this.
     pub fn new(
-        tasks: &'a TaskSet<F::Task>,
+        tasks: &'t TaskSet<F::Task>,
         listener: TcpListener,
         factory: F,
         permits: Permits,
         wanted: u32,
-    ) -> Accepting<'a, F>
-        ensures { (result.permits ≡ permits) × (result.wanted ≡ wanted)
+        offer: Offer<'a>,
+    ) -> Accepting<'t, 'a, F>
+        requires { F.offers factory offer }
+        ensures fresh { (result.permits ≡ permits) × (result.wanted ≡ wanted)
             × (result.clients.let_in ≡ 0) }
+        ensures offer { result.clients.offer ≡ offer.entry }
     {
         Accepting {
             tasks,
@@ -138,7 +165,7 @@ impl<'a, F: ConnectionFactory> Accepting<'a, F> {
             permit: None,
             rest: None,
             wanted,
-            clients: Clients::none(),
+            clients: Clients::none(offer),
         }
     }
 }
@@ -163,9 +190,10 @@ enum Came {
 }
 
 // What comes of a connection that was accepted, or that couldn't be.
-fn let_in(came: io::Result<(TcpStream, SocketAddr)>, clients: &mut Clients) -> Came
+fn let_in(came: io::Result<(TcpStream, SocketAddr)>, clients: &mut Clients<'_>) -> Came
     requires { clients.old.let_in < u32.MAX }
-    ensures { LetsIn came clients.old.let_in clients.new.let_in result }
+    ensures counted { LetsIn came clients.old.let_in clients.new.let_in result }
+    ensures offer { clients.new.offer ≡ clients.old.offer }
 {
     match came {
         Ok((socket, _peer)) => {
@@ -216,15 +244,15 @@ fn poll_came(
     Poll::Ready(Some(came))
 }
 
-impl<F: ConnectionFactory> Future for Accepting<'_, F> {
-    type Output = Result<Clients, ServeFault>;
+impl<'a, F: ConnectionFactory> Future for Accepting<'_, 'a, F> {
+    type Output = Result<Clients<'a>, ServeFault>;
 
     ghost can_poll = { λ accepting. IfSome accepting.permits.waiting CanAcquire
         × (accepting.clients.let_in ≤ accepting.wanted) };
 
-    ghost gives = { λ accepting. AreLetIn accepting.wanted };
+    ghost gives = { λ accepting. AreLetIn accepting.clients.offer accepting.wanted };
 
-    fn poll(&mut self, cx: &mut Context<'_>) -> Poll<Result<Clients, ServeFault>> {
+    fn poll(&mut self, cx: &mut Context<'_>) -> Poll<Result<Clients<'a>, ServeFault>> {
         for _ in 0..BUDGET {
             if self.clients.count() == self.wanted {
                 return Poll::Ready(Ok(self.clients));

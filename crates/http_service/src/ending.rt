@@ -5,6 +5,7 @@ ghost use Rattle.http_routes.specs.Replies.{http_value, text_reply, IsReply};
 ghost use Rattle.http_service.specs.Endings.{reason_of, IsEnded};
 ghost use Rattle.http_service.specs.declared.ending.Reason.TheVariants.{Asked};
 
+use crate::connection::Clients;
 use http_routes::HttpReply;
 use node_calls::NodeFault;
 use std::alloc::{AllocError, Global};
@@ -126,8 +127,8 @@ fn reason_of(fault: Option<NodeFault>) -> Option<Reason>
 /// How a service ended.
 #[derive(Drop)]
 pub struct Served<'a> {
-    /// How many clients were let in.
-    pub clients: u32,
+    /// How many clients were let in, and to what.
+    pub clients: Clients<'a>,
     /// Where it was ended early, what shows that.
     pub early: Option<OnceToken<'a, Reason>>,
 }

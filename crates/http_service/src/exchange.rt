@@ -1,7 +1,7 @@
 //! One request and its reply.
 
 ghost use Rattle.std.specs.Prelude.{◌≡◌, ◌↔◌, ◌⊎◌, ◌<◌, ◌+◌, ◌++◌, ◌==◌, ℕ, List, length};
-ghost use Rattle.std.specs.Prelude.{[], true, option_map, vec_capacity, if◌then◌else◌};
+ghost use Rattle.std.specs.Prelude.{[], true, option_copied, option_map, vec_capacity, if◌then◌else◌};
 ghost use Rattle.std.specs.Prelude.{IfOk, IfErr, IfSome, IsOk, IsTrue};
 ghost use Rattle.message_format.specs.Spelling.{max_message};
 ghost use Rattle.http.specs.Response.{body_of, head_of};
@@ -16,18 +16,23 @@ ghost use Rattle.tokio.specs.Locks.{CanAcquire};
 ghost use Rattle.http.specs.StatusCode.{IsStatusCode};
 ghost use Rattle.http_routes.specs.Replies.{http_value};
 ghost use Rattle.http_routes.specs.Asked.{asked_value};
-ghost use Rattle.http_service.specs.Exchanges.{asking_of, labels_by, pieces_of, ComesTo, EndsSo};
-ghost use Rattle.http_service.specs.Exchanges.{question_to, question_value, Gives, GoesOn};
-ghost use Rattle.http_service.specs.Exchanges.{IsExchangeOf, IsResponseTo, Responds, TakesIn};
+ghost use Rattle.http_service.specs.Exchanges.{asking_of, keeps_in, labels_by, pieces_of, ComesTo};
+ghost use Rattle.http_service.specs.Exchanges.{question_to, question_value, EndsFrom, Gives, GoesFrom};
+ghost use Rattle.http_service.specs.Exchanges.{IsExchangeOf, IsResponseTo, Responds, TakesFrom};
+ghost use Rattle.http_service.specs.Keeping.{HasCome};
 ghost use Rattle.http_service.specs.Exchanges.{IsAnswered, IsAnswerTo, IsUnchanged, IsWhole, TellsTooLong};
+ghost use Rattle.http_service.specs.Heads.{refusal_of};
+ghost use Rattle.http_service.specs.Keys.{key_in, key_need};
 ghost use Rattle.http_service.specs.Labels.{label_fields, with_tag};
 
 use crate::access::{Access, key_need};
 use crate::handler::Handler;
-use crate::heads::{Refusal, judge};
+use crate::heads::{Admitted, Refusal, judge};
+use crate::hosts::authority_of;
+use crate::kept_body::KeptBody;
 use crate::labels::{Labels, tag_alone};
 use crate::permits::Permits;
-use crate::question::Question;
+use crate::question::{Question, keeps_in};
 use crate::tags::{is_had, tag_of};
 use bytes::Bytes;
 use futures::task::{Context, Poll};
@@ -84,10 +89,18 @@ pub struct Exchange<I, H, R> {
     // The head tells of a body that is longer than the longest: nothing of it is read.
     is_too_long: bool,
     body: Limited<Incoming<I>>,
-    read: Vec<u8>,
+    kept: KeptBody,
     // Where the body is long: the permits of such, and then the body's own.
     permits: Option<Permits>,
     permit: Option<OwnedSemaphorePermit>,
+}
+
+/// Whether a head was let in, what is asked then, and the permits of which the body needs one.
+#[derive(Drop)]
+struct Admission<H> {
+    refusal: Option<Refusal>,
+    question: Option<Question<H>>,
+    permits: Option<Permits>,
 }
 
 /// How the reading of a body ended.
@@ -100,29 +113,72 @@ enum Reading {
 }
 
 impl<H, R> ConnectionService<H, R> {
-    // What is asked, and the permits of which the body needs one. Nobody is asked where the head was
-    // refused, or where there is no memory for these.
+    // What is asked by a head that was let in, and the permits of which the body needs one. Nobody is
+    // asked where there is no memory for these.
     fn question(
         &self,
-        refusal: Option<Refusal>,
+        admitted: Admitted,
         asked: Asked<'_>,
         needs_permit: bool,
     ) -> (Option<Permits>, Option<Question<H>>)
         ensures needed { IsTrue needs_permit → result.0 ≡ None → result.1 ≡ None }
         ensures permits { IfSome result.0 (λ permits. IfSome permits.waiting CanAcquire) }
-        ensures question { ((refusal ≡ None) × (option_map question_value result.1
-            ≡ question_to (option_map arc_value self.now.handler) (asked_value asked.entry)))
+        ensures question { (option_map question_value result.1
+            ≡ question_to (option_map arc_value self.now.handler) (key_in self.now.access)
+            (asked_value asked.entry))
             ⊎ (result.1 ≡ None) }
+        ensures admitted { IfSome result.1 (λ question. question.admitted ≡ admitted) }
     {
-        if refusal.is_some() {
-            return (None, None);
-        }
         if !needs_permit {
-            return (None, Question::to(self.alloc, &self.handler, asked));
+            return (
+                None,
+                Question::to(self.alloc, &self.handler, &self.access, asked, admitted),
+            );
         }
         match again(&self.long) {
-            Some(long) => (Some(long), Question::to(self.alloc, &self.handler, asked)),
+            Some(long) => (
+                Some(long),
+                Question::to(self.alloc, &self.handler, &self.access, asked, admitted),
+            ),
             None => (None, None),
+        }
+    }
+
+    // Lets in a head with these fields, whose target has this authority, if it has one, or says why it is
+    // refused: then nobody is asked.
+    fn admission(
+        &self,
+        fields: &HeaderMap,
+        authority: Option<&str>,
+        asked: Asked<'_>,
+        needs_permit: bool,
+    ) -> Admission<H>
+        ensures refusal { result.refusal ≡ refusal_of (key_in self.now.access)
+            (key_need (asked_value asked.entry)) self.now.port (option_copied authority.entry)
+            fields.now }
+        ensures needed { IsTrue needs_permit → result.permits ≡ None → result.question ≡ None }
+        ensures permits { IfSome result.permits (λ permits. IfSome permits.waiting CanAcquire) }
+        ensures question { ((result.refusal ≡ None) × (option_map question_value result.question
+            ≡ question_to (option_map arc_value self.now.handler) (key_in self.now.access)
+            (asked_value asked.entry)))
+            ⊎ (result.question ≡ None) }
+        ensures admitted { IfSome result.question (λ question.
+            (question.admitted.need ≡ key_need (asked_value asked.entry)) × (result.refusal ≡ None)) }
+    {
+        match judge(fields, authority, &self.access, key_need(&asked), self.port) {
+            Ok(admitted) => {
+                let (permits, question) = self.question(admitted, asked, needs_permit);
+                Admission {
+                    refusal: None,
+                    question,
+                    permits,
+                }
+            }
+            Err(refusal) => Admission {
+                refusal: Some(refusal),
+                question: None,
+                permits: None,
+            },
         }
     }
 }
@@ -141,10 +197,14 @@ impl<I: Drop, H: Handler, R: Wait + Clock + Copy> Service<Request<Incoming<I>>>
         let (head, body) = req.into_parts();
         let (method, uri, fields) = (head.method, head.uri, head.headers);
         let asked = self.routes.asked(self.set, method.as_str(), uri.path());
-        let refusal = judge(&fields, &self.access, key_need(&asked), self.port);
         let is_too_long = tells_too_long(&body);
         let needs_permit = !is_too_long && !is_short(&body);
-        let (long, question) = self.question(refusal, asked, needs_permit);
+        let Admission {
+            refusal,
+            question,
+            permits,
+        } = self.admission(&fields, authority_of(&uri), asked, needs_permit);
+        let kept = KeptBody::new(self.alloc, keeps_in(&question));
         Exchange {
             alloc: self.alloc,
             rt: self.rt,
@@ -153,8 +213,8 @@ impl<I: Drop, H: Handler, R: Wait + Clock + Copy> Service<Request<Incoming<I>>>
             fields,
             is_too_long,
             body: Limited::new(body, MAX_BODY),
-            read: Vec::new(self.alloc),
-            permits: long,
+            kept,
+            permits,
             permit: None,
         }
     }
@@ -163,24 +223,27 @@ impl<I: Drop, H: Handler, R: Wait + Clock + Copy> Service<Request<Incoming<I>>>
 impl<I: Drop, H: Handler, R: Wait + Clock + Copy> Exchange<I, H, R> {
     // The reply, once the body was read so far.
     fn reply(&mut self, reading: Reading) -> hyper::Result<HttpReply>
-        ensures comes { ComesTo H.answers (asking_of self.old) reading self.old.read.items result }
+        ensures comes { (came : List ℕ)
+            → HasCome (keeps_in (asking_of self.old).question) self.old.kept came
+            → ComesTo H.answers (asking_of self.old) reading came result }
         ensures asking { asking_of self.new ≡ asking_of self.old }
     {
-        let body = mem::replace(&mut self.read, Vec::new(self.alloc));
+        let kept = mem::replace(&mut self.kept, KeptBody::none(self.alloc));
         match reading {
-            Reading::Whole => Ok(self.reply_to(body)),
+            Reading::Whole => Ok(self.reply_to(kept)),
             Reading::TooLong => Ok(self.reply_too_long()),
             Reading::NoMemory => Ok(HttpReply::no_memory(self.alloc)),
             Reading::Broken(error) => Err(error),
         }
     }
 
-    // The reply to a body that came whole.
-    fn reply_to(&self, body: Vec<u8>) -> HttpReply
-        ensures { IsAnswerTo H.answers (asking_of self.now) body.items (http_value result) }
+    // The reply to a body that came whole, of which this is kept.
+    fn reply_to(&self, kept: KeptBody) -> HttpReply
+        ensures { (came : List ℕ) → HasCome (keeps_in (asking_of self.now).question) kept came
+            → IsAnswerTo H.answers (asking_of self.now) came (http_value result) }
     {
         match &self.question {
-            Some(question) => question.reply(&self.rt, self.alloc, body),
+            Some(question) => question.reply(&self.rt, self.alloc, &self.fields, kept),
             None => HttpReply::no_memory(self.alloc),
         }
     }
@@ -209,7 +272,9 @@ impl<I: Drop, H: Handler, R: Wait + Clock + Copy> Exchange<I, H, R> {
 
     // What is given, once the body was read so far.
     fn answer(&mut self, reading: Reading) -> hyper::Result<Response<Full<Bytes>>>
-        ensures { IsAnswered H.answers (asking_of self.old) reading self.old.read.items result }
+        ensures { (came : List ℕ)
+            → HasCome (keeps_in (asking_of self.old).question) self.old.kept came
+            → IsAnswered H.answers (asking_of self.old) reading came result }
     {
         let reply = self.reply(reading);
         let labels = self.labels(&reply);
@@ -222,10 +287,10 @@ impl<I: Drop, H: Handler, R: Wait + Clock + Copy> Exchange<I, H, R> {
         ensures refusal { self.new.refusal ≡ self.old.refusal }
         ensures told { self.new.is_too_long ≡ self.old.is_too_long }
         ensures asking { asking_of self.new ≡ asking_of self.old }
-        ensures ends { IfReady result (λ reading. EndsSo (pieces_of self.old.body)
-            self.old.read.items reading self.new.read.items) }
-        ensures goes_on { OnPending result (GoesOn (pieces_of self.old.body) self.old.read.items
-            (pieces_of self.new.body) self.new.read.items) }
+        ensures ends { IfReady result (λ reading. EndsFrom (pieces_of self.old.body) self.old.kept
+            reading self.new.kept) }
+        ensures goes_on { OnPending result (GoesFrom (pieces_of self.old.body) self.old.kept
+            (pieces_of self.new.body) self.new.kept) }
         ensures permits { OnPending result
             (IfSome self.new.permits (λ permits. IfSome permits.waiting CanAcquire)) }
         ensures armed { OnPending result (IsArmed cx.new) }
@@ -237,7 +302,7 @@ impl<I: Drop, H: Handler, R: Wait + Clock + Copy> Exchange<I, H, R> {
         if !ready!(poll_permit(&mut self.permits, &mut self.permit, cx)) {
             return Poll::Ready(Reading::NoMemory);
         }
-        poll_body(&mut self.body, &mut self.read, cx)
+        poll_body(&mut self.body, &mut self.kept, cx)
     }
 }
 
@@ -300,26 +365,35 @@ fn poll_permit(
     }
 }
 
-// Takes in pieces of a body, up to its end, or as many as one poll may.
+// How many bytes of a body are left, if its head says that; else 0.
+fn bytes_left<I: Drop>(body: &Limited<Incoming<I>>) -> u64 {
+    body.size_hint().exact().unwrap_or(0)
+}
+
+// Takes in pieces of a body, up to its end, or as many as one poll may. Room for what is kept of them is
+// made at once, if it is known how much.
 fn poll_body<I: Drop>(
     body: &mut Limited<Incoming<I>>,
-    read: &mut Vec<u8>,
+    kept: &mut KeptBody,
     cx: &mut Context<'_>,
 ) -> Poll<Reading>
-    ensures ends { IfReady result (λ reading. EndsSo (pieces_of body.old)
-        read.old.items reading read.new.items) }
-    ensures goes_on { OnPending result (GoesOn (pieces_of body.old) read.old.items
-        (pieces_of body.new) read.new.items) }
+    ensures ends { IfReady result (λ reading. EndsFrom (pieces_of body.old) kept.old reading
+        kept.new) }
+    ensures goes_on { OnPending result (GoesFrom (pieces_of body.old) kept.old
+        (pieces_of body.new) kept.new) }
     ensures armed { OnPending result (IsArmed cx.new) }
-    ensures kept { Keeps cx.old cx.new }
+    ensures keeps { Keeps cx.old cx.new }
 {
-    let before = read.len();
+    if kept.reserve(bytes_left(body)).is_err() {
+        return Poll::Ready(Reading::NoMemory);
+    }
+    let before = kept.count();
     for _ in 0..BUDGET {
         let piece = ready!(body.poll_frame(cx));
-        if let Some(reading) = take_in(read, piece) {
+        if let Some(reading) = take_in(kept, piece) {
             return Poll::Ready(reading);
         }
-        if read.len().saturating_sub(before) >= BYTES_AT_ONCE {
+        if kept.count().saturating_sub(before) >= BYTES_AT_ONCE {
             return cx.yield_now();
         }
     }
@@ -328,26 +402,24 @@ fn poll_body<I: Drop>(
 
 // Takes in a piece of a body, and answers how the reading ends by that, if it does.
 fn take_in(
-    read: &mut Vec<u8>,
+    kept: &mut KeptBody,
     piece: Option<Result<Frame<Bytes>, LimitedError<hyper::Error>>>,
 ) -> Option<Reading>
-    ensures { TakesIn (vec_capacity read.old) piece read.old.items read.new.items result }
+    ensures { TakesFrom piece kept.old kept.new result }
 {
     match piece {
-        Some(Ok(frame)) => keep_data(read, frame),
+        Some(Ok(frame)) => keep_data(kept, frame),
         Some(Err(error)) => Some(broken_off(error)),
         None => Some(Reading::Whole),
     }
 }
 
 // Out of memory is all that ends the reading here.
-fn keep_data(read: &mut Vec<u8>, frame: Frame<Bytes>) -> Option<Reading>
-    ensures { ((result ≡ None) × (read.new.items ≡ read.old.items ++ bytes_in frame.kind))
-        ⊎ ((result ≡ Some Reading.NoMemory)
-        × (vec_capacity read.old < length read.old.items + length (bytes_in frame.kind))) }
+fn keep_data(kept: &mut KeptBody, frame: Frame<Bytes>) -> Option<Reading>
+    ensures { TakesFrom (Some (Ok frame)) kept.old kept.new result }
 {
     let data = frame.into_data().ok()?;
-    match read.extend_from_slice(data.as_slice()) {
+    match kept.add(data.as_slice()) {
         Ok(()) => None,
         Err(_) => Some(Reading::NoMemory),
     }

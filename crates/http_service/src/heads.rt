@@ -1,24 +1,24 @@
 //! Heads that are answered before anything is asked.
 
-ghost use Rattle.std.specs.Prelude.{◌≡◌, ◌++◌, bytes_eq, codes, option_copied};
+ghost use Rattle.std.specs.Prelude.{◌≡◌, ◌++◌, bytes_eq, codes, option_copied, option_map, IfErr};
+ghost use Rattle.std.specs.Prelude.{IfOk, None, Some};
 ghost use Rattle.http_header.specs.HeaderMap.{get_all};
 ghost use Rattle.std.specs.List.{list_all};
 ghost use Rattle.http_routes.specs.Replies.{http_value, IsReply};
-ghost use Rattle.http_service.specs.Heads.{all_pass, is_alike, is_at, is_chunked, is_of_host};
-ghost use Rattle.http_service.specs.Heads.{is_own_page, is_port, is_served_address};
-ghost use Rattle.http_service.specs.Heads.{is_this_machine, may_end_host, only_one, own_host};
-ghost use Rattle.http_service.specs.Heads.{refusal_behind, refusal_labels, refusal_of};
-ghost use Rattle.http_service.specs.Heads.{refusal_reply, stranger};
-ghost use Rattle.http_service.specs.Keys.{credentials_in};
+ghost use Rattle.http_service.specs.Heads.{all_pass, is_chunked, is_of_host, is_own_page};
+ghost use Rattle.http_service.specs.Heads.{is_served_address, refusal_behind, refusal_labels};
+ghost use Rattle.http_service.specs.Heads.{refusal_of, refusal_reply, stranger};
+ghost use Rattle.http_service.specs.Keys.{key_in};
 
-use crate::access::{Access, KeyNeed, has_credentials};
+use crate::access::{Access, KeyNeed, has_key};
+use crate::hosts::{host_of, names_this_machine};
+use crate::key::Key;
 use crate::labels::Labels;
-use decimals::number;
-use http::header::{HOST, HeaderMap, ORIGIN, TRANSFER_ENCODING};
+use crate::letters::is_like;
+use http::header::{HeaderMap, ORIGIN, TRANSFER_ENCODING};
 use http_routes::HttpReply;
 use itoa::Buffer;
 use std::alloc::Global;
-use std::str;
 
 /// Why nothing is asked of the handler.
 #[derive(Clone, Copy, PartialEq, Eq)]
@@ -74,59 +74,68 @@ impl Refusal {
     }
 }
 
-/// Why a head with these fields is refused by a service at this port, if it is. A key is asked for
-/// before all else, unless the request needs none.
-pub fn judge(fields: &HeaderMap, access: &Access, need: KeyNeed, port: u16) -> Option<Refusal>
-    ensures { result ≡ refusal_of (credentials_in access.now) need port fields.now }
+/// What shows that a head was let in. Only `judge` makes it, and without it nothing is asked.
+#[derive(Drop)]
+pub struct Admitted {
+    // What the head had to have.
+    need: KeyNeed,
+}
+
+/// Lets in a head with these fields, whose target has this authority, if it has one, at a service at this
+/// port, or says why it is refused. A key is asked for before all else, unless the request needs none.
+pub fn judge(
+    fields: &HeaderMap,
+    authority: Option<&str>,
+    access: &Access,
+    need: KeyNeed,
+    port: u16,
+) -> Result<Admitted, Refusal>
+    ensures let_in { IfOk result (λ admitted. (admitted.need ≡ need)
+        × (refusal_of (key_in access.now) need port (option_copied authority.entry) fields.now
+        ≡ None)) }
+    ensures refused { IfErr result (λ refusal.
+        refusal_of (key_in access.now) need port (option_copied authority.entry) fields.now
+        ≡ Some refusal) }
 {
-    let credentials = access.credentials();
-    if let Some(refusal) = stranger(fields, credentials, need) {
-        return Some(refusal);
+    let key = access.key();
+    if let Some(refusal) = stranger(fields, authority, key, need) {
+        return Err(refusal);
     }
-    judge_behind(fields, own_host(fields, credentials), port)
+    match judge_behind(fields, key.is_some(), host_of(authority, fields), port) {
+        Some(refusal) => Err(refusal),
+        None => Ok(Admitted { need }),
+    }
 }
 
 // Who isn't let in.
-fn stranger(fields: &HeaderMap, credentials: Option<&[u8]>, need: KeyNeed) -> Option<Refusal>
-    ensures { result ≡ stranger (option_copied credentials.entry) need fields.now }
+fn stranger(
+    fields: &HeaderMap,
+    authority: Option<&str>,
+    key: Option<&Key>,
+    need: KeyNeed,
+) -> Option<Refusal>
+    ensures { result ≡ stranger (option_map (λ k. k.now.bytes.items) key.entry) need
+        (option_copied authority.entry) fields.now }
 {
-    match (credentials, need) {
-        (None, _) if is_for_this_machine(fields) => None,
+    match (key, need) {
+        (None, _) if names_this_machine(authority, fields) => None,
         (None, _) => Some(Refusal::ForeignHost),
         (Some(_), KeyNeed::Waived) => None,
-        (Some(credentials), KeyNeed::Needed) if has_credentials(fields, credentials) => None,
+        (Some(key), KeyNeed::Needed) if has_key(fields, key) => None,
         (Some(_), KeyNeed::Needed) => Some(Refusal::NoKey),
     }
 }
 
-// The host whose pages are the service's own, if there is one.
-fn own_host<'a>(fields: &'a HeaderMap, credentials: Option<&[u8]>) -> Option<&'a [u8]>
-    ensures { option_copied result
-        ≡ own_host (option_copied credentials.entry) fields.now }
-{
-    match credentials {
-        Some(_) => only_host(fields),
-        None => None,
-    }
-}
-
-// The `Host`, where there is just one.
-fn only_host(fields: &HeaderMap) -> Option<&[u8]>
-    ensures { option_copied result
-        ≡ only_one (get_all fields.now (codes "host")) }
-{
-    let mut hosts = fields.get_all(HOST).iter();
-    match (hosts.next(), hosts.next()) {
-        (Some(host), None) => Some(host.as_bytes()),
-        _ => None,
-    }
-}
-
 // Why the head of one who is let in is refused, if it is.
-fn judge_behind(fields: &HeaderMap, host: Option<&[u8]>, port: u16) -> Option<Refusal>
-    ensures { result ≡ refusal_behind port (option_copied host.entry) fields.now }
+fn judge_behind(
+    fields: &HeaderMap,
+    is_keyed: bool,
+    host: Option<&[u8]>,
+    port: u16,
+) -> Option<Refusal>
+    ensures { result ≡ refusal_behind port is_keyed (option_copied host.entry) fields.now }
 {
-    if !is_of_no_other_page(fields, host, port) {
+    if !is_of_no_other_page(fields, is_keyed, host, port) {
         return Some(Refusal::ForeignOrigin);
     }
     if !is_chunked_at_most(fields) {
@@ -135,23 +144,11 @@ fn judge_behind(fields: &HeaderMap, host: Option<&[u8]>, port: u16) -> Option<Re
     None
 }
 
-fn is_for_this_machine(fields: &HeaderMap) -> bool
-    ensures { result ≡ all_pass is_this_machine (codes "host") fields.now }
-{
-    fields
-        .get_all(HOST)
-        .iter()
-        .all(|value| names_this_machine(value.as_bytes()))
-}
-
-fn is_of_no_other_page(fields: &HeaderMap, host: Option<&[u8]>, port: u16) -> bool
-    ensures { result ≡ all_pass (is_own_page port (option_copied host.entry))
+fn is_of_no_other_page(fields: &HeaderMap, is_keyed: bool, host: Option<&[u8]>, port: u16) -> bool
+    ensures { result ≡ all_pass (is_own_page port is_keyed (option_copied host.entry))
         (codes "origin") fields.now }
 {
-    fields
-        .get_all(ORIGIN)
-        .iter()
-        .all(|value| is_own_page(value.as_bytes(), host, port))
+    fields.get_all(ORIGIN).iter().all(|value| is_own_page(value.as_bytes(), is_keyed, host, port))
 }
 
 fn is_chunked_at_most(fields: &HeaderMap) -> bool
@@ -163,40 +160,10 @@ fn is_chunked_at_most(fields: &HeaderMap) -> bool
         .all(|value| is_like(value.as_bytes(), b"chunked"))
 }
 
-fn is_like(a: &[u8], b: &[u8]) -> bool
-    ensures { result ≡ is_alike a.now b.now }
+fn is_own_page(origin: &[u8], is_keyed: bool, host: Option<&[u8]>, port: u16) -> bool
+    ensures { result ≡ is_own_page port is_keyed (option_copied host.entry) origin.now }
 {
-    a.eq_ignore_ascii_case(b)
-}
-
-fn names_this_machine(host: &[u8]) -> bool
-    ensures { result ≡ is_this_machine host.now }
-{
-    is_named(host, b"localhost") || is_named(host, b"127.0.0.1") || is_named(host, b"[::1]")
-}
-
-// Whether a `Host` has this name, with or without a port.
-fn is_named(host: &[u8], name: &[u8]) -> bool
-    ensures { result ≡ is_at name.now host.now }
-{
-    let (start, end) = host.split_at(name.len().min(host.len()));
-    is_like(start, name) && may_end(end)
-}
-
-// Whether these bytes are nothing, or a colon and a port.
-fn may_end(end: &[u8]) -> bool
-    ensures { result ≡ may_end_host end.now }
-{
-    match end.split_first() {
-        None => true,
-        Some((colon, port)) => *colon == b':' && is_number(port),
-    }
-}
-
-fn is_own_page(origin: &[u8], host: Option<&[u8]>, port: u16) -> bool
-    ensures { result ≡ is_own_page port (option_copied host.entry) origin.now }
-{
-    is_served_at(origin, port) || is_of_host(origin, host)
+    is_served_at(origin, port) || is_of_host(origin, is_keyed, host)
 }
 
 fn is_served_at(origin: &[u8], port: u16) -> bool
@@ -209,11 +176,14 @@ fn is_served_at(origin: &[u8], port: u16) -> bool
     )
 }
 
-fn is_of_host(origin: &[u8], host: Option<&[u8]>) -> bool
-    ensures { result ≡ is_of_host (option_copied host.entry) origin.now }
+fn is_of_host(origin: &[u8], is_keyed: bool, host: Option<&[u8]>) -> bool
+    ensures { result ≡ is_of_host is_keyed (option_copied host.entry) origin.now }
 {
     match host {
-        Some(host) => is_joined(origin, b"http://", host) || is_joined(origin, b"https://", host),
+        Some(host) => {
+            is_joined(origin, b"http://", host)
+                || (is_keyed && is_joined(origin, b"https://", host))
+        }
         None => false,
     }
 }
@@ -225,15 +195,5 @@ pub fn is_joined(bytes: &[u8], start: &[u8], end: &[u8]) -> bool
     match bytes.strip_prefix(start) {
         Some(rest) => rest == end,
         None => false,
-    }
-}
-
-// Whether these bytes are the number of a port, in digits.
-fn is_number(port: &[u8]) -> bool
-    ensures { result ≡ is_port port.now }
-{
-    match str::from_utf8(port) {
-        Ok(port) => number(port, 65_535).is_some(),
-        Err(_) => false,
     }
 }

@@ -7,14 +7,14 @@
 //! one and 64 times 64 KiB, twice over while a buffer grows. Of a body 64 KiB are taken in, and then
 //! others have their turn.
 //!
-//! No page of a browser is let in but the operator's: a request whose `Host` is no name of this machine, or whose
-//! `Origin` isn't the address at which the handler is served, is 403, and nothing is asked of it.
+//! No page of a browser is let in but the operator's: a request that names another machine, by its target or its
+//! `Host`, or whose `Origin` isn't the service itself, is 403, and nothing is asked of it.
 //! A service with a key (`Access`) may be asked from other machines too: there the `Host` says
 //! nothing, and a request without the key is 401, whatever it is, before its body is read.
 //!
 //! What a request asks for is said by the table of requests (`http_routes`), once, and by that it is
 //! answered: 404, 405 and 413 before anything is asked, and else by the handler, with the row of its
-//! route.
+//! route. A message that isn't as it was sent, by its digests, is 400, and nothing is asked either.
 //!
 //! A service that has an `Ending` is ended by whoever has that ending, as a handler that is asked for
 //! the end: then no client is let in any more, and those that are being served have two seconds.
@@ -27,15 +27,22 @@ mod exchange;
 mod fault;
 mod handler;
 mod heads;
+mod hosts;
+mod kept_body;
+mod key;
 mod labels;
 pub mod laws;
+mod letters;
 mod permits;
 mod question;
+mod seals;
 mod serving;
 mod tags;
+mod text_check;
 mod until_ended;
 
 pub use access::{Access, KeyFault};
+pub use connection::{Clients, Offer};
 pub use ending::{Ended, Ending, LastReply, Reason, Served};
 pub use fault::ServeFault;
 pub use handler::Handler;

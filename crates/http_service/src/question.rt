@@ -1,37 +1,63 @@
 //! What a request asks for, and whom, once its head is let in.
 
-ghost use Rattle.std.specs.Prelude.{◌≡◌, ◌⊎◌, ◌<◌, ℕ, List, length, option_map};
+ghost use Rattle.std.specs.Prelude.{◌≡◌, ◌⊎◌, ◌<◌, ℕ, List, length, option_map, IfSome};
 ghost use Rattle.std.specs.Arc.{arc_value};
 ghost use Rattle.message_format.specs.Spelling.{max_message};
-ghost use Rattle.http_routes.specs.Asked.{asked_value};
+ghost use Rattle.http_routes.specs.Asked.{asked_value, keeps_of};
 ghost use Rattle.http_routes.specs.Replies.{http_value};
-ghost use Rattle.http_service.specs.Exchanges.{question_to, question_value, AnswersAsked};
+ghost use Rattle.http_service.specs.Exchanges.{keeps_in, question_to, question_value, AnswersAsked};
+ghost use Rattle.http_header.specs.FieldValue.{FieldValue};
+ghost use Rattle.http_header.specs.HeaderMap.{Entries};
+ghost use Rattle.http_service.specs.Keeping.{HasCome};
+ghost use Rattle.http_service.specs.Keys.{key_in};
 ghost use Rattle.http_service.specs.Labels.{labels_of};
 
+use crate::access::Access;
 use crate::handler::Handler;
+use crate::heads::Admitted;
+use crate::kept_body::KeptBody;
 use crate::labels::Labels;
-use http_routes::{Asked, HttpReply, MAX_BODY, RequestFault};
+use crate::seals::is_altered;
+use http::header::HeaderMap;
+use http_routes::{Asked, HttpReply, Keeps, MAX_BODY, RequestFault};
 use std::alloc::Global;
 use std::sync::{Arc, Wait};
 use std::time::Clock;
 
-/// What a request asks for, and whom. It owns what it holds.
+/// What a request asks for, and whom, and what shows that its head was let in. It owns what it holds.
 #[derive(Drop)]
 pub struct Question<H> {
     handler: Arc<H>,
     asked: Asked<'static>,
+    // It has the key with which messages have to be sealed, if there is one.
+    access: Access,
+    admitted: Admitted,
 }
 
 impl<H> Question<H> {
-    /// What is asked of this handler. There is none without the handler, or where memory was refused.
-    pub fn to(alloc: Global, handler: &Option<Arc<H>>, asked: Asked<'_>) -> Option<Question<H>>
-        ensures { (option_map question_value result
-            ≡ question_to (option_map arc_value handler.now) (asked_value asked.entry))
-            ⊎ (result ≡ None) }
+    /// What is asked of this handler, which is served with this access. There is none without the handler,
+    /// or where memory was refused.
+    pub fn to(
+        alloc: Global,
+        handler: &Option<Arc<H>>,
+        access: &Access,
+        asked: Asked<'_>,
+        admitted: Admitted,
+    ) -> Option<Question<H>>
+        ensures asks { (option_map question_value result
+            ≡ question_to (option_map arc_value handler.now) (key_in access.now)
+            (asked_value asked.entry)) ⊎ (result ≡ None) }
+        ensures admitted { IfSome result (λ question. question.admitted ≡ admitted) }
     {
         let asked = asked.into_owned(alloc).ok()?;
+        let access = access.again()?;
         let handler = Arc::try_clone(handler.as_ref()?).ok()?;
-        Some(Question { handler, asked })
+        Some(Question {
+            handler,
+            asked,
+            access,
+            admitted,
+        })
     }
 
     /// What a reply with this status is labelled as.
@@ -42,26 +68,48 @@ impl<H> Question<H> {
     }
 }
 
+/// What is kept of the body of what is asked, if anything is.
+pub fn keeps_in<H>(question: &Option<Question<H>>) -> Keeps
+    ensures { result ≡ keeps_in (option_map question_value question.now) }
+{
+    match question {
+        Some(question) => question.asked.keeps(),
+        None => Keeps::Nothing,
+    }
+}
+
 impl<H: Handler> Question<H> {
-    /// The reply to a body that came whole: nothing is asked of the handler by what has a fault.
-    pub fn reply<R: Wait + Clock>(&self, rt: &R, alloc: Global, body: Vec<u8>) -> HttpReply
-        ensures { AnswersAsked (H.answers (arc_value self.now.handler))
-            (asked_value self.now.asked) body.items (http_value result) }
+    /// The reply to a request with these fields and a body that came whole, of which this is kept: nothing
+    /// is asked of the handler by what has a fault, or by a message that isn't as it was sent.
+    pub fn reply<R: Wait + Clock>(
+        &self,
+        rt: &R,
+        alloc: Global,
+        fields: &HeaderMap,
+        body: KeptBody,
+    ) -> HttpReply
+        ensures { (came : List ℕ) → HasCome (keeps_of (asked_value self.now.asked)) body came
+            → AnswersAsked (H.answers (arc_value self.now.handler)) (key_in self.now.access)
+            fields.now (asked_value self.now.asked) came (http_value result) }
     {
-        if let Some(fault) = self.asked.fault(body.len()) {
+        if let Some(fault) = self.asked.fault(body.count()) {
             return HttpReply::refusal(alloc, fault);
         }
         let Asked::Known { request, row } = &self.asked else {
             unreachable!()
         };
-        self.handler.reply(rt, alloc, request, *row, body)
+        let kept = body.into_bytes();
+        if is_altered(row.kind, self.access.key(), fields, &kept) {
+            return HttpReply::text(alloc, 400, "bad digest");
+        }
+        self.handler.reply(rt, alloc, request, *row, kept)
     }
 
-    /// The reply to a body that is longer than the longest, whatever the rest of it is.
+    /// The reply to a body that is longer than the longest, whatever the rest of it and the fields are.
     pub fn reply_too_long(&self, alloc: Global) -> HttpReply
-        ensures { (longer : List ℕ) → max_message < length longer
-            → AnswersAsked (H.answers (arc_value self.now.handler)) (asked_value self.now.asked)
-            longer (http_value result) }
+        ensures { (fields : Entries FieldValue) (longer : List ℕ) → max_message < length longer
+            → AnswersAsked (H.answers (arc_value self.now.handler)) (key_in self.now.access)
+            fields (asked_value self.now.asked) longer (http_value result) }
     {
         let fault = self.asked.fault(MAX_BODY + 1);
         HttpReply::refusal(alloc, fault.unwrap_or(RequestFault::TooLong))

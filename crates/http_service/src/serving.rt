@@ -4,14 +4,15 @@ ghost use Rattle.std.specs.Prelude.{◌≡◌, ◌⊎◌, ◌*◌, ℕ, IfOk, If
 ghost use Rattle.std.specs.Arc.{arc_value};
 ghost use Rattle.std.specs.Duration.{as_nanos};
 ghost use Rattle.http_service.specs.declared.fault.ServeFault.TheVariants.{AcceptFailed, OutOfMemory};
-ghost use Rattle.http_service.specs.Clients.{AreLetIn};
+ghost use Rattle.http_service.specs.Clients.{AreLetIn, Offers};
 ghost use Rattle.http_service.specs.Endings.{AreLetInOrEnded, IsServedTo};
-ghost use Rattle.http_service.specs.Keys.{credentials_in};
+ghost use Rattle.http_service.specs.Exchanges.{IsOffered};
+ghost use Rattle.http_service.specs.Keys.{key_in};
 ghost use Rattle.tokio.specs.Locks.{CanAcquire};
 ghost use Rattle.tokio.specs.Timers.{IsDelayedBy, sleep_deadline, timeout_delay, timeout_future};
 
 use crate::access::Access;
-use crate::connection::{Accepting, Clients, ConnectionFactory, ConnectionTask};
+use crate::connection::{Accepting, Clients, ConnectionFactory, ConnectionTask, Offer};
 use crate::ending::{Ending, Served};
 use crate::exchange::ConnectionService;
 use crate::fault::ServeFault;
@@ -83,20 +84,19 @@ impl<H: Handler, R: Wait + Clock + Copy> Future for HttpConnection<H, R> {
 
 /// Makes HTTP connections, whose requests all go to one handler.
 #[derive(Drop)]
-struct HttpConnections<H, R> {
+struct HttpConnections<'a, H, R> {
     alloc: Global,
     rt: R,
     handler: Arc<H>,
     routes: Arc<Routes>,
-    set: RouteSet,
+    offer: Offer<'a>,
     long: Permits,
-    access: Access,
     port: u16,
     http: Builder<TokioTimer<R>>,
     timers: Handle,
 }
 
-impl<H, R> HttpConnections<H, R>
+impl<H, R> HttpConnections<'_, H, R>
 where
     H: Handler,
     R: Wait + Clock + Copy,
@@ -111,19 +111,17 @@ where
             (λ h. arc_value h ≡ arc_value self.now.handler)) }
         ensures routes { IfSome result (λ c. arc_value c.served.conn.service.routes
             ≡ arc_value self.now.routes) }
-        ensures set { IfSome result (λ c. c.served.conn.service.set ≡ self.now.set) }
-        ensures access { IfSome result (λ c. credentials_in c.served.conn.service.access
-            ≡ credentials_in self.now.access) }
+        ensures offer { IfSome result (λ c. IsOffered self.now.offer c.served.conn.service) }
         ensures port { IfSome result (λ c. c.served.conn.service.port ≡ self.now.port) }
     {
         let routes = Arc::try_clone(&self.routes).ok()?;
-        let access = self.access.again()?;
+        let access = self.offer.access.again()?;
         let service = ConnectionService {
             alloc: self.alloc,
             rt: self.rt,
             handler: Arc::try_clone(&self.handler).ok(),
             routes,
-            set: self.set,
+            set: self.offer.set,
             long: self.long.again(),
             access,
             port: self.port,
@@ -134,12 +132,14 @@ where
     }
 }
 
-impl<H, R> ConnectionFactory for HttpConnections<H, R>
+impl<H, R> ConnectionFactory for HttpConnections<'_, H, R>
 where
     H: Handler + Send + Sync,
     R: Wait + Clock + Send + Copy,
 {
     type Task = ConnectionTask<HttpConnection<H, R>>;
+
+    ghost offers = { λ c offer. c.offer ≡ offer };
 
     fn open(
         &self,
@@ -148,6 +148,8 @@ where
     ) -> Option<ConnectionTask<HttpConnection<H, R>>>
         ensures can_poll { IfSome result
             ⟦<ConnectionTask<HttpConnection<H, R>> as Future>⟧.can_poll }
+        ensures offer { IfSome result (λ task. IsOffered self.now.offer
+            (timeout_future task.timed).served.conn.service) }
         ensures whole { IfSome result (λ task. (whole : _)
             × (as_nanos whole ≡ WHOLE_SECONDS * 1_000_000_000)
             × IsDelayedBy whole (sleep_deadline (timeout_delay task.timed))) }
@@ -177,29 +179,31 @@ where
     }
 }
 
-/// Serves so many connections beside each other, with one request each, and answers how many, once
-/// each has ended. A handler is asked for what the routes of `RouteSet::Cluster` have. A connection
-/// that breaks, or that is ended for its time, counts as served. Where one can't be accepted, it is
-/// tried again after a rest.
-pub fn serve_all<H, R>(
+/// Serves so many connections at the same time, one request each, and returns how many, once each has
+/// ended. Asks the handler for what the routes of `RouteSet::Cluster` have, for who has this access. A
+/// connection that breaks or runs out of time counts as served. If no connection can be accepted, it
+/// tries again after a rest.
+pub fn serve_all<'a, H, R>(
     rt: &R,
     alloc: Global,
     runtime: &mut Runtime,
     handler: Arc<H>,
-    access: Access,
+    access: &'a Access,
     listener: TcpListener,
     requests: u32,
-) -> Result<u32, ServeFault>
+) -> Result<Clients<'a>, ServeFault>
 where
     H: Handler + Send + Sync,
     R: Wait + Threads + Clock + RandomSource + AllocGlobal + Send + Sync + Copy,
-    ensures ok { IfOk result (λ served. served ≡ requests) }
+    ensures ok { IfOk result (λ clients. clients.let_in ≡ requests) }
+    ensures offer { IfOk result
+        (λ clients. Offers RouteSet.Cluster (key_in access.now) clients.offer) }
     ensures err { IfErr result (λ f. (f ≡ AcceptFailed) ⊎ (f ≡ OutOfMemory)) }
 {
     let set = RouteSet::Cluster;
-    let (factory, permits) = opened(rt, alloc, runtime, handler, set, access, &listener)?;
-    let clients = admit(rt, runtime, listener, factory, permits, requests)?;
-    Ok(clients.count())
+    let offer = Offer { set, access };
+    let (factory, permits) = opened(rt, alloc, runtime, handler, offer, &listener)?;
+    admit(rt, runtime, listener, factory, permits, requests, offer)
 }
 
 /// Serves connections as `serve_all` does, until the service is ended. The handler is asked for what
@@ -209,7 +213,7 @@ pub fn serve_until_ended<'e, H, R>(
     alloc: Global,
     runtime: &mut Runtime,
     handler: Arc<H>,
-    access: Access,
+    access: &'e Access,
     listener: TcpListener,
     requests: u32,
     ending: &'e Arc<Ending>,
@@ -218,28 +222,35 @@ where
     H: Handler + Send + Sync,
     R: Wait + Threads + Clock + RandomSource + AllocGlobal + Send + Sync + Copy,
     ensures ok { IfOk result (IsServedTo requests (arc_value ending.now).reason.id) }
+    ensures offer { IfOk result
+        (λ served. Offers RouteSet.Program (key_in access.now) served.clients.offer) }
     ensures err { IfErr result (λ f. (f ≡ AcceptFailed) ⊎ (f ≡ OutOfMemory)) }
 {
     let set = RouteSet::Program;
-    let (factory, permits) = opened(rt, alloc, runtime, handler, set, access, &listener)?;
-    let let_in = admit_until(rt, runtime, listener, factory, permits, requests, ending)?;
+    let offer = Offer { set, access };
+    let (factory, permits) = opened(rt, alloc, runtime, handler, offer, &listener)?;
+    let let_in = admit_until(
+        rt, runtime, listener, factory, permits, requests, offer, ending,
+    )?;
     served_by(ending, let_in)
 }
 
 // How a service ended that let these clients in.
-fn served_by(ending: &Ending, let_in: LetIn) -> Result<Served<'_>, ServeFault>
-    ensures ok { (wanted : ℕ) → AreLetInOrEnded wanted (Ok let_in)
+fn served_by<'e>(ending: &'e Ending, let_in: LetIn<'e>) -> Result<Served<'e>, ServeFault>
+    ensures ok { (offer : _) (wanted : ℕ) → AreLetInOrEnded offer wanted (Ok let_in.entry)
         → IfOk result (IsServedTo wanted ending.now.reason.id) }
+    ensures offer { (offer : _) (wanted : ℕ) → AreLetInOrEnded offer wanted (Ok let_in.entry)
+        → IfOk result (λ served. served.clients.offer ≡ offer) }
     ensures err { IfErr result (λ f. f ≡ AcceptFailed) }
 {
     match let_in {
         LetIn::All(clients) => Ok(Served {
-            clients: clients.count(),
+            clients,
             early: None,
         }),
         LetIn::Ended(clients) => match ending.ended() {
             Some(ended) => Ok(Served {
-                clients: clients.count(),
+                clients,
                 early: Some(ended),
             }),
             // Nobody has ended it.
@@ -248,45 +259,42 @@ fn served_by(ending: &Ending, let_in: LetIn) -> Result<Served<'_>, ServeFault>
     }
 }
 
-// Makes connections whose requests go to a handler that is served by a listener, with these routes, and
+// Makes connections whose requests go to a handler that is served by a listener, for what is offered, and
 // the permits of as many as are served at once.
-fn opened<H, R>(
+fn opened<'a, H, R>(
     rt: &R,
     alloc: Global,
     runtime: &Runtime,
     handler: Arc<H>,
-    set: RouteSet,
-    access: Access,
+    offer: Offer<'a>,
     listener: &TcpListener,
-) -> Result<(HttpConnections<H, R>, Permits), ServeFault>
+) -> Result<(HttpConnections<'a, H, R>, Permits), ServeFault>
 where
     H: Handler,
     R: Clock + RandomSource + Copy,
     ensures none_waits { IfOk result (λ r. r.1.waiting ≡ None) }
     ensures count { IfOk result (λ r. r.1.count ≡ AT_ONCE) }
     ensures handler { IfOk result (λ r. arc_value r.0.handler ≡ arc_value handler) }
-    ensures set { IfOk result (λ r. r.0.set ≡ set) }
-    ensures access { IfOk result (λ r. r.0.access ≡ access) }
+    ensures offer { IfOk result (λ r. r.0.offer ≡ offer.entry) }
     ensures err { IfErr result (λ f. (f ≡ AcceptFailed) ⊎ (f ≡ OutOfMemory)) }
 {
     let permits = Permits::new(alloc, AT_ONCE)?;
     let Ok(address) = listener.local_addr() else {
         return Err(ServeFault::AcceptFailed);
     };
-    let factory = connections_to(rt, alloc, runtime, handler, set, access, address.port())?;
+    let factory = connections_to(rt, alloc, runtime, handler, offer, address.port())?;
     Ok((factory, permits))
 }
 
-// Makes connections whose requests go to a handler, which is served so at this port, with these routes.
-fn connections_to<H, R>(
+// Makes connections whose requests go to a handler, which is served at this port, for what is offered.
+fn connections_to<'a, H, R>(
     rt: &R,
     alloc: Global,
     runtime: &Runtime,
     handler: Arc<H>,
-    set: RouteSet,
-    access: Access,
+    offer: Offer<'a>,
     port: u16,
-) -> Result<HttpConnections<H, R>, ServeFault>
+) -> Result<HttpConnections<'a, H, R>, ServeFault>
 where
     H: Handler,
     R: Clock + RandomSource + Copy,
@@ -294,9 +302,8 @@ where
     ensures head { IfOk result (λ f. IsSomeAnd f.http.options.header_read_timeout
         (λ head. as_nanos head ≡ HEAD_SECONDS * 1_000_000_000)) }
     ensures handler { IfOk result (λ f. arc_value f.handler ≡ arc_value handler) }
-    ensures set { IfOk result (λ f. f.set ≡ set) }
+    ensures offer { IfOk result (λ f. f.offer ≡ offer.entry) }
     ensures long { IfOk result (λ f. f.long.count ≡ LONG_AT_ONCE) }
-    ensures access { IfOk result (λ f. f.access ≡ access) }
     ensures port { IfOk result (λ f. f.port ≡ port) }
     ensures read { IfOk result (λ f. f.http.config.max_buf_size ≡ READ_AT_ONCE) }
     ensures err { IfErr result (λ f. (f ≡ AcceptFailed) ⊎ (f ≡ OutOfMemory)) }
@@ -310,9 +317,8 @@ where
         rt: *rt,
         handler,
         routes,
-        set,
+        offer,
         long,
-        access,
         port,
         http,
         timers,
@@ -364,23 +370,25 @@ where
     }
 }
 
-/// Accepts so many connections, and returns once the task of each has ended.
-fn admit<R, F>(
+/// Accepts so many connections for what is offered, and returns once the task of each has ended.
+fn admit<'a, R, F>(
     rt: &R,
     runtime: &mut Runtime,
     listener: TcpListener,
     factory: F,
     permits: Permits,
     requests: u32,
-) -> Result<Clients, ServeFault>
+    offer: Offer<'a>,
+) -> Result<Clients<'a>, ServeFault>
 where
     R: Wait + Threads + Clock + RandomSource + AllocGlobal + Sync,
     F: ConnectionFactory,
-    requires { IfSome permits.waiting CanAcquire }
-    ensures { AreLetIn requests result }
+    requires permits { IfSome permits.waiting CanAcquire }
+    requires offers { F.offers factory offer }
+    ensures { AreLetIn offer.entry requests result }
 {
     let tasks = task_set(rt, runtime)?;
-    let accepting = Accepting::new(&tasks, listener, factory, permits, requests);
+    let accepting = Accepting::new(&tasks, listener, factory, permits, requests, offer);
     match runtime.block_on_with(rt, &tasks, accepting) {
         Ok(ended) => ended,
         Err(_) => Err(ServeFault::AcceptFailed),
@@ -389,24 +397,26 @@ where
 
 /// Accepts so many connections as `admit` does, until the service is ended. Then the tasks that are
 /// left have as long to end as the factory gives them.
-fn admit_until<R, F>(
+fn admit_until<'a, R, F>(
     rt: &R,
     runtime: &mut Runtime,
     listener: TcpListener,
     factory: F,
     permits: Permits,
     requests: u32,
+    offer: Offer<'a>,
     ending: &Ending,
-) -> Result<LetIn, ServeFault>
+) -> Result<LetIn<'a>, ServeFault>
 where
     R: Wait + Threads + Clock + RandomSource + AllocGlobal + Sync,
     F: ConnectionFactory,
-    requires { IfSome permits.waiting CanAcquire }
-    ensures { AreLetInOrEnded requests result }
+    requires permits { IfSome permits.waiting CanAcquire }
+    requires offers { F.offers factory offer }
+    ensures { AreLetInOrEnded offer.entry requests result }
 {
     let tasks = task_set(rt, runtime)?;
     let bell = ending.listen()?;
-    let accepting = Accepting::new(&tasks, listener, factory, permits, requests);
+    let accepting = Accepting::new(&tasks, listener, factory, permits, requests, offer);
     let until_ended = UntilEnded::new(accepting, ending, bell);
     match runtime.block_on_with(rt, &tasks, until_ended) {
         Ok(let_in) => let_in,

@@ -19,42 +19,43 @@ use tokio::time::Timeout;
 
 /// Which clients were let in.
 #[derive(Clone, Copy)]
-pub enum LetIn {
+pub enum LetIn<'a> {
     /// As many as were wanted.
-    All(Clients),
+    All(Clients<'a>),
     /// So many when the service was ended.
-    Ended(Clients),
+    Ended(Clients<'a>),
 }
 
 /// Accepts connections until as many have come as are wanted, or the service is ended. Then it waits
 /// for those that are still served, for so long at most, and drops them.
 #[derive(Drop)]
-pub struct UntilEnded<'a, F: ConnectionFactory> {
+pub struct UntilEnded<'t, 'a, F: ConnectionFactory> {
     // There is none once the service is ended: its listener is closed then.
-    accepting: Option<Accepting<'a, F>>,
+    accepting: Option<Accepting<'t, 'a, F>>,
     // What those are waited for by then who are still served, unless there was no memory for it.
     last: Option<Timeout<AllBack>>,
-    tasks: &'a TaskSet<F::Task>,
-    ending: &'a Ending,
+    tasks: &'t TaskSet<F::Task>,
+    ending: &'t Ending,
     bell: OwnedNotified,
     wanted: u32,
     // How many were let in when it was ended.
-    clients: Clients,
+    clients: Clients<'a>,
 }
 
-impl<'a, F: ConnectionFactory> UntilEnded<'a, F> {
+impl<'t, 'a, F: ConnectionFactory> UntilEnded<'t, 'a, F> {
     /// It hears of the end by this bell.
     pub fn new(
-        accepting: Accepting<'a, F>,
-        ending: &'a Ending,
+        accepting: Accepting<'t, 'a, F>,
+        ending: &'t Ending,
         bell: OwnedNotified,
-    ) -> UntilEnded<'a, F>
+    ) -> UntilEnded<'t, 'a, F>
         requires waiting { IfSome accepting.permits.waiting CanAcquire }
         requires few { accepting.clients.let_in ≤ accepting.wanted }
-        ensures can_poll { ⟦<UntilEnded<'a, F> as Future>⟧.can_poll result }
+        ensures can_poll { ⟦<UntilEnded<'t, 'a, F> as Future>⟧.can_poll result }
         ensures wanted { result.wanted ≡ accepting.entry.wanted }
+        ensures offer { result.clients.offer ≡ accepting.entry.clients.offer }
     {
-        let (tasks, wanted) = (accepting.tasks, accepting.wanted);
+        let (tasks, wanted, clients) = (accepting.tasks, accepting.wanted, accepting.clients);
         UntilEnded {
             accepting: Some(accepting),
             last: None,
@@ -62,7 +63,7 @@ impl<'a, F: ConnectionFactory> UntilEnded<'a, F> {
             ending,
             bell,
             wanted,
-            clients: Clients::none(),
+            clients,
         }
     }
 }
@@ -82,17 +83,18 @@ fn poll_last(last: &mut Option<Timeout<AllBack>>, cx: &mut Context<'_>) -> Poll<
     Poll::Ready(back.is_err())
 }
 
-impl<'a, F: ConnectionFactory> Future for UntilEnded<'a, F> {
-    type Output = Result<LetIn, ServeFault>;
+impl<'a, F: ConnectionFactory> Future for UntilEnded<'_, 'a, F> {
+    type Output = Result<LetIn<'a>, ServeFault>;
 
     ghost can_poll = { λ u. IfSome u.accepting (λ a. IfSome a.permits.waiting CanAcquire
-        × (a.clients.let_in ≤ a.wanted) × (a.wanted ≡ u.wanted))
+        × (a.clients.let_in ≤ a.wanted) × (a.wanted ≡ u.wanted)
+        × (a.clients.offer ≡ u.clients.offer))
         × IfSome u.last (λ last. CanAcquire (timeout_future last).waiting)
         × (u.clients.let_in ≤ u.wanted) };
 
-    ghost gives = { λ u. AreLetInOrEnded u.wanted };
+    ghost gives = { λ u. AreLetInOrEnded u.clients.offer u.wanted };
 
-    fn poll(&mut self, cx: &mut Context<'_>) -> Poll<Result<LetIn, ServeFault>> {
+    fn poll(&mut self, cx: &mut Context<'_>) -> Poll<Result<LetIn<'a>, ServeFault>> {
         // From now on it is polled again when the service is ended.
         let _ = self.bell.poll(cx);
         let is_ended = self.ending.ended().is_some();

@@ -11,7 +11,7 @@ ghost use Rattle.http_wire.specs.Reached.{is_ready_for};
 ghost use Rattle.http_wire.specs.Sent.{IsHelloTo, IsPostedTo, IsSentTo, peer_at, traffic_of};
 
 use crate::forgetful::{Forgetful, hear};
-use gossip::{Log, Reach, Wire, WireError};
+use gossip::{Log, PeerWire, Reach, Wire, WireError};
 use http_posts::{Connection, Key, Peer, PostError, Posted, Poster};
 use std::alloc::{AllocGlobal, Global};
 use std::mem;
@@ -71,17 +71,6 @@ impl<R> HttpWire<R> {
     {
         let peer = self.peers.iter().find(|peer| peer.node == node)?;
         Some(peer.address)
-    }
-
-    /// Which nodes have answered since the last time that they have forgotten what they did.
-    pub fn take_forgetful(&mut self, alloc: Global) -> Vec<Forgetful>
-        ensures value { result ≡ self.old.forgetful }
-        ensures taken { self.new.forgetful.items ≡ [] }
-        ensures stays { (self.new.peers ≡ self.old.peers) × (self.new.sent ≡ self.old.sent)
-            × (self.new.ready ≡ self.old.ready) }
-        ensures key { self.new.key ≡ self.old.key }
-    {
-        mem::replace(&mut self.forgetful, Vec::new(alloc))
     }
 }
 
@@ -161,30 +150,6 @@ impl<R: Wait + Clock + Net + RandomSource + AllocGlobal + Drop> HttpWire<R> {
         self.hellos.add(&asked.posted);
         Ok(())
     }
-
-    /// Asks a node to tell this one, which has this number, what it knows, whether or not that is news:
-    /// `POST /hello` with the number, over a connection of its own. It tells by a message to this one's
-    /// server.
-    pub fn ask_to_tell(&mut self, alloc: Global, own: u8, to: u8) -> Result<(), WireError>
-        ensures no_peer { (result ≡ Err WireError.NoPeer)
-            ↔ (has_peer self.old.peers.items to ≡ false) }
-        ensures failed { IfErr result (λ e. (e ≡ WireError.NoPeer) ⊎ IsFailure e) }
-        ensures stays { (self.new.peers ≡ self.old.peers) × (self.new.sent ≡ self.old.sent)
-            × (self.new.forgetful ≡ self.old.forgetful) }
-        ensures key { self.new.key ≡ self.old.key }
-        ensures posted { OnOk result (IfSome (address_of self.old.peers.items to) (λ address.
-            IsHelloTo (peer_at to address) self.old.key own self.old.hellos.items
-            self.new.hellos.items)) }
-        ensures unsent { OnErr result (self.new.hellos.items ≡ self.old.hellos.items) }
-    {
-        match self.address_of(to) {
-            Some(address) => match self.ask_peer(alloc, own, Peer { node: to, address }) {
-                Ok(()) => Ok(()),
-                Err(error) => Err(failure_of(error)),
-            },
-            None => Err(WireError::NoPeer),
-        }
-    }
 }
 
 impl<R: Wait + Clock + Net + RandomSource + AllocGlobal + Drop> Wire for HttpWire<R> {
@@ -258,5 +223,45 @@ impl<R: Wait + Clock + Net + RandomSource + AllocGlobal + Drop> Reach for HttpWi
             }
             Err(_) => false,
         }
+    }
+}
+
+impl<R: Wait + Clock + Net + RandomSource + AllocGlobal + Drop> PeerWire for HttpWire<R> {
+    ghost use Rattle.http_wire.specs.Sent.{traffic_of};
+
+    type Loss = Forgetful;
+
+    // By `POST /hello` with the number, over a connection of its own.
+    fn ask<S: Wait>(&mut self, _rt: &S, alloc: Global, own: u8, to: u8) -> Result<(), WireError>
+        ensures no_peer { (result ≡ Err WireError.NoPeer)
+            ↔ (has_peer self.old.peers.items to ≡ false) }
+        ensures failed { IfErr result (λ e. (e ≡ WireError.NoPeer) ⊎ IsFailure e) }
+        ensures stays { (self.new.peers ≡ self.old.peers) × (self.new.sent ≡ self.old.sent)
+            × (self.new.forgetful ≡ self.old.forgetful) }
+        ensures key { self.new.key ≡ self.old.key }
+        ensures posted { OnOk result (IfSome (address_of self.old.peers.items to) (λ address.
+            IsHelloTo (peer_at to address) self.old.key own self.old.hellos.items
+            self.new.hellos.items)) }
+        ensures unsent { OnErr result (self.new.hellos.items ≡ self.old.hellos.items) }
+        ensures same { traffic_of self.new.sent.items ≡ traffic_of self.old.sent.items }
+    {
+        match self.address_of(to) {
+            Some(address) => match self.ask_peer(alloc, own, Peer { node: to, address }) {
+                Ok(()) => Ok(()),
+                Err(error) => Err(failure_of(error)),
+            },
+            None => Err(WireError::NoPeer),
+        }
+    }
+
+    fn take_losses(&mut self, alloc: Global) -> Vec<Forgetful>
+        ensures value { result ≡ self.old.forgetful }
+        ensures taken { self.new.forgetful.items ≡ [] }
+        ensures stays { (self.new.peers ≡ self.old.peers) × (self.new.sent ≡ self.old.sent)
+            × (self.new.ready ≡ self.old.ready) }
+        ensures key { self.new.key ≡ self.old.key }
+        ensures same { traffic_of self.new.sent.items ≡ traffic_of self.old.sent.items }
+    {
+        mem::replace(&mut self.forgetful, Vec::new(alloc))
     }
 }

@@ -8,6 +8,7 @@ use Rattle.node_calls.proofs.fault.NodeFault.TheSendSync as fault
 use Rattle.node_steps.proofs.generator.Generator.TheSendSync as generator
 use Rattle.node_core.proofs.node.NodeCore.TheSendSync as core
 use Rattle.sharing.proofs.memory.Memory.TheSendSync as memory
+use Rattle.peers.proofs.book.PeerBook.TheSendSync as book
 use Rattle.node_for_c.proofs.points.Points.TheSendSync as points
 use Rattle.node_for_c.proofs.registry.Said.TheSendSync as said
 use Rattle.node_for_c.specs.contracts.registry.Registry as Registry
@@ -25,7 +26,7 @@ registry_send =
             room.the_send,
             (
               said.the_field_send,
-              (search (crosses, sendable) depth 30, (points.the_send, (search (crosses, sendable, fault.the_send) depth 30, (memory.the_send, tt)))),
+              (search (crosses, sendable) depth 30, (points.the_send, (search (crosses, sendable, fault.the_send) depth 30, (memory.the_send, (book.the_field_send, tt))))),
             ),
           ),
         ),

@@ -18,6 +18,8 @@ use Rattle.node_core.specs.Traces.{Kept, Accepts, Emits, IsRefusalOf, after_call
 use Rattle.node_steps.specs.Words.{place_after, words_next}
 use Rattle.sharing.specs.Shares.{memory_after}
 use Rattle.stamp_register.specs.declared.key.Stamp.{Stamp}
+use Rattle.peers.specs.declared.heard.Cluster.{Cluster}
+use Rattle.peers.specs.Book.{fresh_book}
 use Rattle.node_sharing.specs.Made.{AreMade, IsStopped, shifts_due}
 use Rattle.node_sharing.specs.Spread.{IsNotSetSpread, IsNotSpread, IsSetSpread, rights_kept, spread_due}
 use Rattle.node_for_c.specs.Numbers.{closed, no_memory, no_point, not_text}
@@ -67,13 +69,17 @@ said_of k = said_in k.core k.room k.said
 abbrev pub fault_said : Registry → List ℕ
 fault_said k = text_or_none (option_map node_fault_text k.fault)
 
+-- a node among the others of its cluster
+abbrev pub cluster_in : Config → Cluster
+cluster_in config = record { own = config.node; nodes = config.nodes }
+
 -- a registry that was just opened
 abbrev pub IsOpened : Config → List ℕ → Registry → Type 0
 IsOpened config seed k =
     (k.core ≡ new_kept config) ×
     (k.generator ≡ record { key = key_of seed; stream = config.node; word_pos = 0 }) ×
     (k.room ≡ []) × (said_of k ≡ []) × (k.words.items ≡ []) × (k.points ≡ []) × (k.fault ≡ None) ×
-    (k.memory ≡ [])
+    (k.memory ≡ []) × (k.book ≡ fresh_book (cluster_in config))
 
 -- why a closed node isn't opened
 abbrev pub IsNotOpened : Config → ℕ → Type 0
@@ -156,7 +162,7 @@ abbrev pub IsPassedDrawing : List ℕ → Act → Registry → Registry → Type
 IsPassedDrawing name act k l =
     IsPassedWith name (words_drawn k name) act k l × (l.words.items ≡ words_drawn k name) ×
     (l.generator ≡ place_after k.generator (words_needed k name)) × (l.points ≡ k.points) × (l.fault ≡ k.fault) ×
-    (l.routes ≡ k.routes) × (l.room ≡ k.room) × (l.memory ≡ k.memory)
+    (l.routes ≡ k.routes) × (l.room ≡ k.room) × (l.memory ≡ k.memory) × (l.book ≡ k.book)
 
 -- a text is to be fetched, and nothing else changed
 abbrev pub IsSaid : List ℕ → Registry → Registry → Type 0

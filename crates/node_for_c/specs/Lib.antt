@@ -2,6 +2,7 @@ pub mod Owned
 pub mod Numbers
 pub mod Told
 pub mod Calls
+pub mod Cluster
 pub mod Pauses
 pub mod Points
 pub mod Answered

@@ -38,6 +38,10 @@ no_entry = 34
 abbrev pub no_line : ℕ
 no_line = 35
 
+-- no node
+abbrev pub nobody : ℕ
+nobody = 255
+
 -- a stamp as C has it, and what C is told where there is none
 abbrev pub stamp_in : Stamped → Stamp
 stamp_in s = record { clock = s.clock; node = s.node }

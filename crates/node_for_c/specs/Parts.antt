@@ -1,13 +1,14 @@
 -- The lines of a node's part, and calls that are made again.
-use Rattle.std.specs.Prelude.{◌≡◌, ◌⊎◌, ℕ, ◌+◌, ◌^◌, ◌%◌, List, length, IsUtf8, Some}
+use Rattle.std.specs.Prelude.{◌≡◌, ◌⊎◌, ℕ, ◌+◌, ◌^◌, ◌%◌, ◌<◌, ◌≤◌, List, [], ◌++◌, length, IsUtf8, Some, None}
 use Rattle.node_calls.specs.Asks.{call_from}
 use Rattle.node_calls.specs.Told.{Told}
 use Rattle.node_core.specs.Resumed.{IsNext}
 use Rattle.node_core.specs.Traces.{Kept, call_kept, with_call}
+use Rattle.drills.specs.Drills.{ended}
 use Rattle.drills.specs.Lines.{HeadTold, entry, line_text, part_head}
 use Rattle.drills.specs.Reading.{entry_in}
 use Rattle.node_for_c.specs.Numbers.{no_memory, not_text}
-use Rattle.node_for_c.specs.Calls.{IsSaid}
+use Rattle.node_for_c.specs.Calls.{IsSaid, said_of}
 use Rattle.node_for_c.specs.declared.registry.Registry.{Registry}
 
 -- the head of a node's part
@@ -27,6 +28,22 @@ pub record IsEntrySaid (index : ℕ) (k l : Registry) : Type 0 where
   pub told : Told
   pub there : call_kept k.core index ≡ Some (call_from k.core.config.nodes told)
   pub said : IsSaid (line_text (entry told)) k l
+
+-- the lines of the calls from one number up to another, each with the newline that ends it
+pub data AreLines (k : Kept) : ℕ → ℕ → List ℕ → Type 0 where
+  no_line : {at : ℕ} → AreLines k at at []
+  one_more : {from at : ℕ} {text : List ℕ} (told : Told)
+      → AreLines k from at text → call_kept k at ≡ Some (call_from k.config.nodes told)
+      → AreLines k from (at + 1) (text ++ ended (entry told))
+
+-- the node keeps no call of one of the numbers from one on, or has fewer calls
+abbrev pub LacksCall : Kept → ℕ → Type 0
+LacksCall k from = (length k.trace < from) ⊎ ((at : ℕ) × (from ≤ at) × (call_kept k at ≡ None))
+
+-- the lines of all calls from a number on are to be fetched
+abbrev pub AreLinesSaid : ℕ → Registry → Registry → Type 0
+AreLinesSaid from k l =
+    AreLines k.core from (length k.core.trace) (said_of l) × (l ≡ record k { said = l.said })
 
 -- the node made the call of a line again, and its generator went over the draws of it
 pub record IsRepeated (line : List ℕ) (k l : Registry) : Type 0 where

@@ -3,6 +3,7 @@
 #![tactic(auto)]
 
 mod act;
+mod cluster;
 mod handle;
 mod numbers;
 mod parts;
@@ -12,6 +13,7 @@ mod recording;
 mod registry;
 
 pub use act::{Act, UNSET};
+pub use cluster::{Answered, NOBODY, UNANSWERED};
 pub use handle::{Handle, Node, Opaque};
 pub use numbers::{NO_STAMP, Stamped, Wide, narrow};
 pub use points::Points;

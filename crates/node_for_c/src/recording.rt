@@ -1,14 +1,15 @@
 //! The lines of a node's part, and calls that are made again from there.
 
-ghost use Rattle.std.specs.Prelude.{◌≡◌, ◌≢◌, ◌⊎◌, string_bytes, IfOk, None};
+ghost use Rattle.std.specs.Prelude.{◌≡◌, ◌≢◌, ◌⊎◌, length, string_bytes, IfOk, MatchOption, None};
 ghost use Rattle.node_core.specs.Traces.{call_kept};
 ghost use Rattle.drills.specs.Lines.{line_text, part_head};
 ghost use Rattle.drills.specs.Reading.{entry_in as entry_read};
 ghost use Rattle.node_for_c.specs.Numbers.{differs, no_entry, no_line, no_memory};
-ghost use Rattle.node_for_c.specs.Parts.{IsEntrySaid, IsHeadSaid, IsNoHead, IsOtherwise, IsRepeated, head_of};
+ghost use Rattle.node_for_c.specs.Parts.{AreLines, AreLinesSaid, IsEntrySaid, IsHeadSaid, IsNoHead};
+ghost use Rattle.node_for_c.specs.Parts.{IsOtherwise, IsRepeated, LacksCall, head_of};
 
 use crate::registry::{NOT_TEXT, Registry, Said, number_of};
-use drills::{PartHead, entry_in, entry_text, part_head_text};
+use drills::{PartHead, entry_in, entry_text, part_head_text, write_entry};
 use node_core::{NodeFault, Seen};
 use std::alloc::{AllocError, Global};
 
@@ -70,6 +71,45 @@ impl Registry {
                 self.said = Said::Bytes(text.into_bytes());
                 0
             }
+            Err(_) => number_of(NodeFault::OutOfMemory),
+        }
+    }
+
+    // The lines of the accepted calls from a number on, each with its newline; none where one of them isn't
+    // kept, or there are fewer calls.
+    fn lines_from(&self, alloc: Global, from: u64) -> Result<Option<Vec<u8>>, AllocError>
+        ensures { IfOk result (λ found. MatchOption found (LacksCall self.now.core from)
+            (λ lines. AreLines self.now.core from (length self.now.core.trace) lines.items)) }
+    {
+        let calls = self.core.calls();
+        if from > calls {
+            return Ok(None);
+        }
+        let mut lines = Vec::new(alloc);
+        for index in from..calls {
+            let Some(call) = self.core.at(index) else {
+                return Ok(None);
+            };
+            let Ok(()) = write_entry(alloc, call, &mut lines) else {
+                return Err(AllocError);
+            };
+        }
+        Ok(Some(lines))
+    }
+
+    /// The lines of the accepted calls from a number on are to be fetched, each with its newline.
+    pub fn say_lines(&mut self, alloc: Global, from: u64) -> u32
+        ensures text { result ≡ 0 → AreLinesSaid from self.old self.new }
+        ensures refused { result ≢ 0 → (result ≡ no_memory)
+            ⊎ ((result ≡ no_entry) × LacksCall self.old.core from) }
+        ensures same { result ≢ 0 → self.new ≡ self.old }
+    {
+        match self.lines_from(alloc, from) {
+            Ok(Some(lines)) => {
+                self.said = Said::Bytes(lines);
+                0
+            }
+            Ok(None) => NO_ENTRY,
             Err(_) => number_of(NodeFault::OutOfMemory),
         }
     }

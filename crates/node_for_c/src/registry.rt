@@ -19,22 +19,30 @@ ghost use Rattle.node_for_c.specs.Calls.{AtPoint, HasNumber, IsLeftAt, IsRefused
 ghost use Rattle.node_for_c.specs.Calls.{fault_said, said_of, words_drawn};
 ghost use Rattle.node_for_c.specs.Calls.{IsNotSpreadBy, IsNotSpreadSet, IsShared, IsShareStopped};
 ghost use Rattle.node_for_c.specs.Calls.{IsNotOpened, IsOpened, IsSpread, IsSpreadSet};
-ghost use Rattle.node_for_c.specs.Answered.{IsAnswered, IsNoRequest, MayLackMemory};
+ghost use Rattle.node_for_c.specs.Answered.{IsAnswered, IsAnsweredTo, IsNoRequest, MayLackMemory};
+ghost use Rattle.node_for_c.specs.Answered.{MayLackMemoryTo, reply_left};
+ghost use Rattle.node_for_c.specs.Calls.{cluster_in};
+ghost use Rattle.http_routes.specs.Asked.{asked_value};
+ghost use Rattle.http_routes.specs.Replies.{http_value};
+ghost use Rattle.http_routes.specs.Requests.{wanted_asked};
+ghost use Rattle.peers.specs.Book.{fresh_book};
 
 use crate::act::{Act, UNSET, act_of, into_text, text_of};
 use crate::numbers::NO_STAMP;
 use crate::points::Points;
 use actions::{Name, NameFault};
-use http_routes::{HttpReply, KeptRoom, RoomReply, RouteSet, Routes, answer_in};
+use http_routes::{Asked, HttpReply, KeptRoom, RoomReply, RouteSet, Routes, answer_in};
 use node_core::{Config, Generator, NodeCore, NodeFault};
 use node_sharing::{set_spread, share, spread};
+use peers::{Cluster, PeerBook};
 use sharing::Memory;
 use stamp_register::Stamp;
 use std::alloc::{AllocError, Global};
 
 /// A node with the generator of its random draws, the routes of requests and the room for replies to
 /// them, what of the last answer is to be fetched, the random draws that the last pass drew, the
-/// points that have numbers, the last refusal, and what the node remembers of its rounds of sharing.
+/// points that have numbers, the last refusal, what the node remembers of its rounds of sharing, and what
+/// it knows of the others besides the counts.
 #[derive(Drop)]
 pub struct Registry {
     pub core: NodeCore,
@@ -46,6 +54,7 @@ pub struct Registry {
     pub points: Points,
     pub fault: Option<NodeFault>,
     pub memory: Memory,
+    pub book: PeerBook,
 }
 
 /// What a request was answered, but for the body.
@@ -102,6 +111,16 @@ pub fn read_name(alloc: Global, bytes: &[u8]) -> Result<Name, u32>
     }
 }
 
+// A node among the others, of which nothing is known yet.
+fn cluster_of(config: Config) -> Cluster
+    ensures { result ≡ cluster_in config }
+{
+    Cluster {
+        own: config.node,
+        nodes: config.nodes,
+    }
+}
+
 // What C is told of the pass at a place.
 fn told_at(core: &NodeCore, index: u64) -> Act
     ensures { MatchOption (passed_at (call_kept core.now index)) (result ≡ no_act)
@@ -136,7 +155,9 @@ impl Registry {
         ensures points { IfOk result (λ k. k.points ≡ []) }
         ensures fault { IfOk result (λ k. k.fault ≡ None) }
         ensures memory { IfOk result (λ k. k.memory ≡ []) }
+        ensures book { IfOk result (λ k. k.book ≡ fresh_book (cluster_in core.config)) }
     {
+        let book = PeerBook::new(cluster_of(core.config()));
         Ok(Registry {
             core,
             generator,
@@ -147,6 +168,7 @@ impl Registry {
             points: Points::new(alloc),
             fault: None,
             memory: Memory::new(alloc),
+            book,
         })
     }
 
@@ -181,12 +203,13 @@ impl Registry {
         ensures points { IfOk result (λ b. b.value.points ≡ []) }
         ensures fault { IfOk result (λ b. b.value.fault ≡ None) }
         ensures memory { IfOk result (λ b. b.value.memory ≡ []) }
+        ensures book { IfOk result (λ b. b.value.book ≡ fresh_book (cluster_in core.config)) }
     {
         Ok(Box::new(alloc, Registry::new(alloc, core, generator)?)?)
     }
 
-    // Keeps a refusal, and answers its number.
-    fn refuse(&mut self, fault: NodeFault) -> u32
+    /// Keeps a refusal, and answers its number.
+    pub(crate) fn refuse(&mut self, fault: NodeFault) -> u32
         ensures status { result ≡ code_of fault }
         ensures some { result ≢ 0 }
         ensures left { self.new ≡ record self.old { fault = Some fault } }
@@ -497,23 +520,38 @@ impl Registry {
             return Err(NOT_TEXT);
         };
         let asked = self.routes.asked(RouteSet::Library, method, path);
+        Ok(self.answer_asked(alloc, &asked, body))
+    }
+
+    /// Answers what is asked of the node alone. The body of the reply is to be fetched.
+    pub(crate) fn answer_asked(&mut self, alloc: Global, asked: &Asked<'_>, body: &[u8]) -> Answer
+        ensures answered { IsAnsweredTo (wanted_asked (asked_value asked.now) body.now) result self.old
+            self.new }
+        ensures memory { MayLackMemoryTo (wanted_asked (asked_value asked.now) body.now) result
+            self.old self.new }
+    {
         let (core, room) = (&mut self.core, &mut self.room);
-        match answer_in(core, alloc, room, &asked, body) {
+        match answer_in(core, alloc, room, asked, body) {
             RoomReply::Kept { status, fault } => {
                 self.said = Said::InRoom;
-                Ok(Answer { status, fault })
+                Answer { status, fault }
             }
-            RoomReply::Apart(
-                HttpReply {
-                    status,
-                    body,
-                    fault,
-                },
-            ) => {
-                self.said = Said::Bytes(body);
-                Ok(Answer { status, fault })
-            }
+            RoomReply::Apart(reply) => self.say_reply(reply),
         }
+    }
+
+    /// The body of a reply is to be fetched.
+    pub(crate) fn say_reply(&mut self, reply: HttpReply) -> Answer
+        ensures answer { reply_left result self.new ≡ http_value reply }
+        ensures same { self.new ≡ record self.old { said = self.new.said } }
+    {
+        let HttpReply {
+            status,
+            body,
+            fault,
+        } = reply;
+        self.said = Said::Bytes(body);
+        Answer { status, fault }
     }
 
     /// Lists the points that are set, to be fetched.

@@ -5,3 +5,5 @@ pub mod WorkersLemmas
 pub mod SeatReceipts
 pub mod SameCalls
 pub mod AcceptedBatches
+pub mod ToldCalls
+pub mod GivenCalls

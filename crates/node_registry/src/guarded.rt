@@ -1,7 +1,7 @@
 //! What lies under a registry's lock, and the seats from which it is called.
 
 ghost use Rattle.std.specs.Prelude.{◌≡◌, ℕ, ◌+◌, ◌*◌, ◌≤◌, ◌<◌, ◌⊎◌, List, drop, length, map};
-ghost use Rattle.std.specs.Prelude.{vec_len, All};
+ghost use Rattle.std.specs.Prelude.{vec_len, All, ◌-◌, Some, slice_get};
 ghost use Rattle.std.specs.Prelude.{IfOk, IfErr, IfNone, IfSome, OnErr, OnOk, OnSome};
 ghost use Rattle.std.specs.Prelude.{MatchOption, IsTrue, true, false};
 ghost use Rattle.rand_chacha.specs.ChaCha.{key_of};
@@ -12,7 +12,9 @@ ghost use Rattle.node_steps.specs.Refusals.{is_bad_config};
 ghost use Rattle.node_registry.specs.Batches.{AreEntered};
 ghost use Rattle.node_registry.specs.Cells.{Cell, Enters, IsCellOf, IsLawfulAt, IsRefusedBy};
 ghost use Rattle.node_registry.specs.Cells.{Passes, Submits, cell_without_kept, new_cell};
-ghost use Rattle.node_registry.specs.Pieces.{IsAllLeft, IsLeft, IsPieceOf};
+ghost use Rattle.node_registry.specs.Pieces.{AreBytes, GivesCall, IsAllLeft, IsLeft, IsPieceOf};
+ghost use Rattle.node_registry.specs.Pieces.{HasBytes, emitted_in};
+ghost use Rattle.node_calls.specs.Told.{Told, ask_ref_told, bytes_of, reply_ref_told};
 ghost use Rattle.node_registry.specs.Receipts.{IsEntryFor, IsNoneAt, IsReceiptAt, pass_receipt_of};
 ghost use Rattle.node_registry.specs.Receipts.{receipt_of};
 ghost use Rattle.node_registry.specs.Seats.{AreCalled, SeatState, amount_of, called, calls_from};
@@ -23,7 +25,7 @@ use crate::cell::NodeCell;
 use crate::label::Label;
 use crate::pass_receipt::PassReceipt;
 use actions::Name;
-use node_core::{Ask, Config, NodeCore, NodeFault, Receipt, Reply, Trace};
+use node_core::{Ask, AskRef, Config, NodeCore, NodeFault, Receipt, Reply, ReplyRef, Trace};
 use std::alloc::{AllocError, Global};
 use std::marker::Model;
 use std::sync::ledger::{Blank, Book, Share};
@@ -235,6 +237,37 @@ impl<L: Label> Guarded<L> {
         Ok(reply)
     }
 
+    /// Makes a call as `submit` does, and hands out the calls that the node keeps then, as `give` does: the
+    /// last of them is this one.
+    pub fn submit_giving(
+        &mut self,
+        alloc: Global,
+        seat: &mut Seat<L>,
+        ask: Ask,
+    ) -> Result<(Reply, Piece), NodeFault>
+        requires forgets { L.keeps ≡ false }
+        requires given { seat.old.given ≤ self.old.node.from }
+        ensures ok { IfOk result (λ r. (d : Cell) × GivesCall self.old d ask r.0 r.1
+            × (self.new ≡ cell_without_kept d)
+            × IsCellOf L.config L.seed L.keeps L.parts seat.new d) }
+        ensures counted { IfOk result (λ r. seat.new
+            ≡ gave (called seat.old (length self.old.node.trace)) (length r.1.trace.calls)) }
+        ensures since { IsCellOf L.config L.seed L.keeps L.parts seat.old self.old }
+        ensures refused { IfErr result
+            (IsRefusedBy self.old (ask_value_first self.old.node.config.nodes ask)) }
+        ensures err { OnErr result ((self.new ≡ self.old) × (seat.new ≡ seat.old)) }
+    {
+        self.audit(seat);
+        is_asked(self.core(), ask.as_ref());
+        let reply = self.submit(alloc, seat, ask)?;
+        reply_has_bytes(reply.as_ref());
+        let Some(piece) = self.give(alloc, seat) else {
+            unreachable!()
+        };
+        last_has_bytes(&piece.trace);
+        Ok((reply, piece))
+    }
+
     /// Passes a point as `NodeCell::pass_point` does, and counts it to the seat.
     pub fn pass_point(
         &mut self,
@@ -305,6 +338,31 @@ impl<L: Label> Guarded<L> {
             *next = after;
         }
         answer
+    }
+
+    /// Makes the calls of a batch as `make_batch` does, and hands out the calls that the node keeps then, as
+    /// `give` does.
+    pub fn make_batch_giving<T, B: Batch<T>>(
+        &mut self,
+        alloc: Global,
+        seat: &mut Seat<L>,
+        batch: &mut B,
+    ) -> (T, Piece)
+        requires forgets { L.keeps ≡ false }
+        requires given { seat.old.given ≤ self.old.node.from }
+        ensures entered { (d : Cell) × (asks : List Asked) × AreEntered self.old asks d
+            × AreCalled seat.old (length asks) (length d.node.trace) seat.new
+            × B.comes batch.old batch.new self.old.node d.node result.0
+            × IsPieceOf d result.1 × (self.new ≡ cell_without_kept d)
+            × IsCellOf L.config L.seed L.keeps L.parts seat.new d }
+        ensures handed { seat.new.given ≡ seat.old.given + length result.1.trace.calls }
+        ensures since { IsCellOf L.config L.seed L.keeps L.parts seat.old self.old }
+    {
+        let answer = self.make_batch(alloc, seat, batch);
+        let Some(piece) = self.give(alloc, seat) else {
+            unreachable!()
+        };
+        (answer, piece)
     }
 
     /// The receipt of an accepted call by its place in the trace of the node's whole life; none where
@@ -414,6 +472,65 @@ impl<L: Label> Guarded<L> {
         let calls = core.calls();
         let trace = cell.into_trace();
         Closed { from, trace, calls }
+    }
+}
+
+// The bytes of a message are bytes. Nothing here runs.
+fn are_bytes(bytes: &[u8])
+    ensures { AreBytes bytes.now }
+{
+    let _ = bytes;
+}
+
+fn ask_has_bytes(ask: AskRef<'_>)
+    ensures { AreBytes (bytes_of (ask_ref_told ask.entry)) }
+{
+    match ask {
+        AskRef::Deliver { message } => are_bytes(message),
+        AskRef::Set { .. }
+        | AskRef::Remove { .. }
+        | AskRef::Load { .. }
+        | AskRef::Pass { .. }
+        | AskRef::Shift { .. }
+        | AskRef::Grant { .. }
+        | AskRef::Emit { .. } => are_bytes(&[]),
+    }
+}
+
+fn reply_has_bytes(reply: ReplyRef<'_>)
+    ensures { AreBytes (emitted_in (reply_ref_told reply.entry)) }
+{
+    match reply {
+        ReplyRef::Emit(message) => are_bytes(message),
+        ReplyRef::Set(_)
+        | ReplyRef::Remove(_)
+        | ReplyRef::Load(_)
+        | ReplyRef::Pass(_)
+        | ReplyRef::Shift(_)
+        | ReplyRef::Grant(_)
+        | ReplyRef::Deliver(_) => are_bytes(&[]),
+    }
+}
+
+// What holds of each node and of each call that it is asked. Nothing here runs.
+fn is_asked(core: &NodeCore, ask: AskRef<'_>)
+    ensures few { core.now.config.nodes < 256 }
+    ensures within { core.now.from ≤ length core.now.trace }
+    ensures bytes { AreBytes (bytes_of (ask_ref_told ask.entry)) }
+{
+    let _ = core.config().nodes;
+    let _ = core.from();
+    ask_has_bytes(ask);
+}
+
+// And of the last call of a trace.
+fn last_has_bytes(trace: &Trace)
+    ensures { (t : Told) → slice_get trace.now.calls (length trace.now.calls - 1) ≡ Some t
+        → HasBytes t }
+{
+    if let Some(call) = trace.last() {
+        ask_has_bytes(call.ask());
+        reply_has_bytes(call.reply());
     }
 }
 

@@ -11,7 +11,7 @@ ghost use Rattle.node_calls.specs.Asks.{emit_asked, message_read};
 ghost use Rattle.node_steps.specs.Refusals.{is_bad_config};
 ghost use Rattle.node_registry.specs.Batches.{IsBatch};
 ghost use Rattle.node_registry.specs.Cells.{Cell, IsCellSince, IsLawfulAt};
-ghost use Rattle.node_registry.specs.Pieces.{IsAllLeft, IsLeft, IsPieceOf};
+ghost use Rattle.node_registry.specs.Pieces.{IsAllLeft, IsGivenBatch, IsGivenCall, IsLeft, IsPieceOf};
 ghost use Rattle.node_registry.specs.Receipts.{IsAnswered, IsEntryFor, IsGiven, IsReceiptOf};
 ghost use Rattle.node_registry.specs.Receipts.{IsNoneAt, IsPassReceipt, IsReceiptAt, IsRefused};
 ghost use Rattle.node_registry.specs.Seats.{ComesNext, IsCalled, called, calls_from, gave, given_by};
@@ -97,6 +97,21 @@ impl<L: Label> Registry<L> {
         unreachable!()
     }
 
+    // Takes the lock for such a seat that hands calls out, where no fewer calls are handed out than it did.
+    // No clause says that of a lock either.
+    fn held_to_give<R: Wait>(&self, rt: &R, next: u64, given: u64) -> MutexGuard<'_, Guarded<L>>
+        ensures since { next ≤ length (mutex_guard_value result).node.trace }
+        ensures given { given ≤ (mutex_guard_value result).node.from }
+    {
+        for _ in rt.forever() {
+            let guarded = self.held_since(rt, next);
+            if given <= guarded.core().from() {
+                return guarded;
+            }
+        }
+        unreachable!()
+    }
+
     /// Makes a call under the lock, as `Guarded::enter` does, and counts it to the seat. The copy of
     /// the ask that the receipt has is made before.
     pub fn enter<R: Wait>(
@@ -158,6 +173,26 @@ impl<L: Label> Registry<L> {
     {
         let mut guarded = self.held_since(rt, seat.next());
         guarded.submit(alloc, seat, ask)
+    }
+
+    /// Makes a call as `submit` does, and hands out the calls that the node keeps then, as `give` does, under
+    /// one lock: the last of them is this call, to the byte.
+    pub fn submit_giving<R: Wait>(
+        &self,
+        rt: &R,
+        alloc: Global,
+        seat: &mut Seat<L>,
+        ask: Ask,
+    ) -> Result<(Reply, Piece), NodeFault>
+        requires { L.keeps ≡ false }
+        ensures given { IfOk result (λ r. IsGivenCall L.config L.seed L.keeps L.parts seat.old
+            seat.new ask r.0 r.1) }
+        ensures refused { IfErr result
+            (IsRefused L.config L.seed (ask_value_first L.config.nodes ask)) }
+        ensures err { OnErr result (seat.new ≡ seat.old) }
+    {
+        let mut guarded = self.held_to_give(rt, seat.next(), seat.given());
+        guarded.submit_giving(alloc, seat, ask)
     }
 
     /// Sets a point to an action text.
@@ -373,6 +408,23 @@ impl<L: Label> Registry<L> {
         guarded.make_batch(alloc, seat, batch)
     }
 
+    /// Makes the calls of a batch as `make_batch` does, and hands out the calls that the node keeps then, as
+    /// `give` does, under one lock.
+    pub fn make_batch_giving<R: Wait, T, B: Batch<T>>(
+        &self,
+        rt: &R,
+        alloc: Global,
+        seat: &mut Seat<L>,
+        batch: &mut B,
+    ) -> (T, Piece)
+        requires { L.keeps ≡ false }
+        ensures { IsGivenBatch L.config L.seed L.keeps L.parts seat.old seat.new
+            (λ was now. B.comes batch.old batch.new was now result.0) result.1 }
+    {
+        let mut guarded = self.held_to_give(rt, seat.next(), seat.given());
+        guarded.make_batch_giving(alloc, seat, batch)
+    }
+
     /// The receipt of an accepted call by its place in the trace of the node's whole life, counted from
     /// 0; none where the call is no longer kept, or there are fewer. There are at least the seat's, and
     /// no others if it is the only seat. What the call was asked and answered is copied under the lock:
@@ -429,13 +481,11 @@ impl<L: Label> Registry<L> {
             × IsPieceOf c result }
         ensures counted { seat.new ≡ gave seat.old (length result.trace.calls) }
     {
-        for _ in rt.forever() {
-            let mut guarded = self.held_since(rt, seat.next());
-            if let Some(piece) = guarded.give(alloc, seat) {
-                return piece;
-            }
-        }
-        unreachable!()
+        let mut guarded = self.held_to_give(rt, seat.next(), seat.given());
+        let Some(piece) = guarded.give(alloc, seat) else {
+            unreachable!()
+        };
+        piece
     }
 
     /// Takes all seats back. What is left is the end of a legal trace, which has as many entries as the

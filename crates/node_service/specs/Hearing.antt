@@ -2,9 +2,9 @@
 use Rattle.std.specs.Prelude.{◌≡◌, ℕ}
 use Rattle.command_line.specs.declared.reading.Start.{Start}
 use Rattle.command_line.specs.declared.reading.Start.TheVariants.{AtOnce, OthersHeard}
-use Rattle.http_peers.specs.declared.heard.Hearing.{Hearing}
-use Rattle.http_peers.specs.declared.heard.Hearing.TheVariants.{Whenever, First}
-use Rattle.http_peers.specs.declared.peers.Peers.{Peers}
+use Rattle.peers.specs.declared.heard.Hearing.{Hearing}
+use Rattle.peers.specs.declared.heard.Hearing.TheVariants.{Whenever, First}
+use Rattle.http_peers.specs.declared.shared.Peers.{Peers}
 
 -- as the command line has it
 abbrev pub hearing_of : Start → Hearing

@@ -1,6 +1,8 @@
 -- What a node does with the key of a file.
-use Rattle.std.specs.Prelude.{◌≡◌, ◌<◌, ◌≤◌, ⊤, ℕ, List, length, Option, Some, IfSome, option_map, string_bytes}
-use Rattle.http_service.specs.Keys.{credentials_in, credentials_of}
+use Rattle.std.specs.Prelude.{◌≡◌, ◌<◌, ◌≤◌, ⊤, true, ℕ, List, length, Option, Some, IfSome, IsSomeAnd}
+use Rattle.std.specs.Prelude.{option_map, string_bytes}
+use Rattle.http_posts.specs.Keys.{credentials}
+use Rattle.http_service.specs.Keys.{are_credentials, key_in}
 use Rattle.node_calls.specs.declared.fault.NodeFault.TheVariants.{OutOfMemory}
 use Rattle.node_service.specs.declared.fault.ServiceFault.{ServiceFault}
 use Rattle.node_service.specs.declared.fault.ServiceFault.TheVariants as faults
@@ -8,18 +10,26 @@ use Rattle.node_service.specs.declared.key_file.KeyFault.{KeyFault}
 use Rattle.node_service.specs.declared.key_file.KeyFault.TheVariants as keys
 use Rattle.node_service.specs.declared.key_file.Keyed.{Keyed}
 
--- the credentials that peers are sent
+-- the credentials that peers are sent, and the key with which their messages are sealed
 abbrev pub sent_in : Keyed → Option (List ℕ)
 sent_in keyed = option_map (λ key. string_bytes key.credentials) keyed.key
 
--- clients are asked for the credentials that peers are sent, or neither are there
-abbrev pub AsksForWhatItSends : Keyed → Type 0
-AsksForWhatItSends keyed = credentials_in keyed.access ≡ sent_in keyed
+abbrev pub sealed_in : Keyed → Option (List ℕ)
+sealed_in keyed = option_map (λ key. key.bytes.items) keyed.key
 
--- clients are asked for the key of these bytes, and peers are sent it
+-- clients are asked for the key by which messages to peers are sealed, and for the credentials that peers are sent, with
+-- which a client is let in; or neither are there
+pub record AsksForWhatItSends (keyed : Keyed) : Type 0 where
+  pub key : key_in keyed.access ≡ sealed_in keyed
+  pub sent : option_map credentials (key_in keyed.access) ≡ sent_in keyed
+  pub passes : IfSome (key_in keyed.access)
+      (λ key. IsSomeAnd (sent_in keyed) (λ value. are_credentials key value ≡ true))
+
+-- clients are asked for the key of these bytes, and peers are sent it, with messages that are sealed by it
 pub record IsKeyedBy (bytes : List ℕ) (keyed : Keyed) : Type 0 where
-  pub asks : credentials_in keyed.access ≡ Some (credentials_of bytes)
-  pub sends : sent_in keyed ≡ Some (credentials_of bytes)
+  pub asks : key_in keyed.access ≡ Some bytes
+  pub sends : sent_in keyed ≡ Some (credentials bytes)
+  pub seals : sealed_in keyed ≡ Some bytes
 
 -- the key is 32 to 1,024 bytes: all that a reader has to give, where it tells them
 pub record HasKeyOf (input : Option (List ℕ)) (keyed : Keyed) : Type 0 where

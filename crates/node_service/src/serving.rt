@@ -216,7 +216,7 @@ where
         registry,
         calls,
         heard: &heard,
-        access,
+        access: &access,
         listener,
         requests: options.requests,
         ending: &ending,

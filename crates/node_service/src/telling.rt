@@ -1,19 +1,22 @@
 //! A node that is served, and its gossip beside it.
 
-ghost use Rattle.std.specs.Prelude.{◌≡◌, ◌⊎◌, false, IfOk, IfErr};
+ghost use Rattle.std.specs.Prelude.{◌≡◌, ◌⊎◌, false, None, IfOk, IfErr, IsSomeAnd, MatchOption};
 ghost use Rattle.std.specs.Arc.{arc_value};
 ghost use Rattle.http_service.specs.Endings.{IsServedTo};
 ghost use Rattle.http_service.specs.declared.fault.ServeFault.TheVariants.{AcceptFailed, OutOfMemory};
-ghost use Rattle.node_service.specs.Endings.{IsNodeServed};
+ghost use Rattle.node_service.specs.Endings.{IsNodeServed, IsSomeEnd};
+ghost use Rattle.peer_rounds.specs.Sharing.{IsEarly};
 
 use crate::calls::Calls;
 use crate::ended::NodeServed;
 use command_line::GossipOptions;
-use http_serve::{Access, Ending, Peers, ServeFault, Served, serve_forgetting, serve_recording};
+use http_serve::{
+    Access, Ended, Ending, Peers, ServeFault, Served, serve_forgetting, serve_recording,
+};
 use http_wire::Key;
 use node_registry::{Label, Registry, Seat};
 use part_keeper::Recorder;
-use peer_rounds::{Host, Service, tell_peers};
+use peer_rounds::{Host, Rounds, Service, tell_peers};
 use std::sync::Arc;
 use std::thread;
 use std::thread::Scope;
@@ -28,7 +31,7 @@ pub struct Serving<'a, L: Label> {
     pub registry: &'a Arc<Registry<L>>,
     pub calls: Calls<'a, L>,
     pub heard: &'a Arc<Peers>,
-    pub access: Access,
+    pub access: &'a Access,
     pub listener: TcpListener,
     pub requests: u32,
     pub ending: &'a Arc<Ending>,
@@ -93,30 +96,43 @@ where
     Ok(NodeServed::of(ending, served))
 }
 
+// What telling the peers came to, and what shows that the service is ended by it, if it is.
+#[derive(Drop)]
+struct Gossiped<'s, 'e> {
+    rounds: Rounds<'s>,
+    ended: Option<Ended<'e>>,
+}
+
 // Tells the peers of a node beside its service, which ends if a message from the wire shows that the node has
 // lost its state.
-fn tell<L, R>(
+fn tell<'s, 'e, L, R>(
     rt: &R,
     registry: &Registry<L>,
     recorder: Option<&Recorder<L>>,
     telling: Telling<L>,
     heard: &Peers,
-    service: &Service,
-    ending: &Ending,
-)
+    service: &'s Service,
+    ending: &'e Ending,
+) -> Gossiped<'s, 'e>
 where
     L: Label,
     R: Host,
+    ensures rounds { MatchOption result.rounds.early
+        (result.rounds.made ≡ telling.options.rounds) (IsEarly service.now.end.id) }
+    ensures ended { MatchOption result.rounds.loss (result.ended ≡ None)
+        (λ _. IsSomeAnd result.ended (IsSomeEnd ending.now.reason.id)) }
 {
     let Telling {
         mut seat,
         options,
         key,
     } = telling;
-    tell_peers(
+    let told = tell_peers(
         rt, registry, recorder, &mut seat, &options, heard, key, service,
     );
-    let _ = ending.meet(rt, service.lost_state());
+    let rounds = told.rounds;
+    let ended = ending.meet(rt, rounds.lost_state(service));
+    Gossiped { rounds, ended }
 }
 
 // Serves a node, with its gossip in a thread of the scope.
@@ -138,14 +154,15 @@ where
     let heard: &'s Peers = serving.heard;
     let ending: &'s Ending = serving.ending;
     let thread = scope.spawn(move || {
-        tell(rt, registry, recorder, telling, heard, service, ending);
+        let _ = tell(rt, registry, recorder, telling, heard, service, ending);
     });
     let served = serve_alone(rt, serving);
-    service.end();
+    service.end(rt);
     if let Ok(thread) = thread {
         thread.join(rt);
     }
-    served
+    // The last round may have shown a loss after the last client.
+    Ok(served?.or_lost(rt, service, ending))
 }
 
 /// Serves a node, and meanwhile tells its peers what they don't know, from a seat of its own in a second

@@ -3,15 +3,14 @@
 ghost use Rattle.std.specs.Prelude.{◌≡◌, option_map, IfOk, OnErr, OnOk};
 ghost use Rattle.gossip.specs.Traffic.{sends, takes};
 
-use gossip::{Reach, Wire, WireError};
+use gossip::{PeerWire, Reach, Wire, WireError};
 use node_registry::Label;
 use part_keeper::AllWritten;
 use std::alloc::Global;
 use std::marker::PhantomData;
 use std::sync::Wait;
 
-/// Sends what the recording of a node has handed back, and nothing else. What its wire has sent can't be
-/// told any more once that was lent (`get_mut`), so nobody can say that a message left in another way.
+/// Sends what the recording of a node has handed back, and nothing else: nobody else has its wire.
 #[derive(Drop)]
 pub(crate) struct GatedWire<L: Label, W> {
     inner: W,
@@ -26,13 +25,6 @@ impl<L: Label, W> GatedWire<L, W> {
             inner,
             of: PhantomData,
         }
-    }
-
-    /// The wire that it sends over.
-    pub(crate) fn get_mut(&mut self) -> &mut W
-        ensures { result.now ≡ self.old.inner }
-    {
-        &mut self.inner
     }
 }
 
@@ -73,5 +65,27 @@ impl<L: Label, W: Reach> GatedWire<L, W> {
         ensures same { W.traffic self.new.inner ≡ W.traffic self.old.inner }
     {
         self.inner.reaches(rt, alloc, to)
+    }
+}
+
+impl<L: Label, W: PeerWire> GatedWire<L, W> {
+    /// Asks a node for a message.
+    pub(crate) fn ask<R: Wait>(
+        &mut self,
+        rt: &R,
+        alloc: Global,
+        own: u8,
+        to: u8,
+    ) -> Result<(), WireError>
+        ensures same { W.traffic self.new.inner ≡ W.traffic self.old.inner }
+    {
+        self.inner.ask(rt, alloc, own, to)
+    }
+
+    /// Returns the nodes that lost their state.
+    pub(crate) fn take_losses(&mut self, alloc: Global) -> Vec<W::Loss>
+        ensures same { W.traffic self.new.inner ≡ W.traffic self.old.inner }
+    {
+        self.inner.take_losses(alloc)
     }
 }

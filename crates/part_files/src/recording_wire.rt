@@ -4,9 +4,9 @@ ghost use Rattle.std.specs.Prelude.{◌≡◌, [], is_ok, Err, IfOk, OnErr, OnOk
 ghost use Rattle.gossip.specs.Traffic.{sends};
 
 use crate::gated_wire::GatedWire;
-use gossip::{Reach, Wire, WireError};
+use gossip::{PeerWire, Reach, Wire, WireError};
 use node_registry::{Label, Registry};
-use part_keeper::{AllWritten, NotRecorded, Recorder};
+use part_keeper::{AllWritten, NotRecorded, Recorder, RecordingState};
 use std::alloc::Global;
 use std::sync::Wait;
 
@@ -38,11 +38,12 @@ impl<'a, L: Label, W> RecordingWire<'a, L, W> {
     }
 
     /// Whether calls are still made.
-    pub fn look<R: Wait>(&mut self, rt: &R) -> bool
-        ensures { (result ≡ self.new.goes_on) × (self.new.wire ≡ self.old.wire) }
+    pub fn look<R: Wait>(&mut self, rt: &R) -> RecordingState
+        ensures { (result.goes_on ≡ self.new.goes_on) × (self.new.wire ≡ self.old.wire) }
     {
-        self.goes_on = self.recorder.goes_on(rt);
-        self.goes_on
+        let state = self.recorder.state(rt);
+        self.goes_on = state.goes_on();
+        state
     }
 
     /// Has the lines of all calls that were made written, and hands on what shows it. Where they can't
@@ -58,13 +59,6 @@ impl<'a, L: Label, W> RecordingWire<'a, L, W> {
         let kept = self.recorder.keep(rt, alloc, self.registry);
         self.goes_on = kept.is_ok();
         kept
-    }
-
-    /// The wire that it sends over.
-    pub fn get_mut(&mut self) -> &mut W
-        ensures { result.now ≡ self.old.wire.inner }
-    {
-        self.wire.get_mut()
     }
 }
 
@@ -116,6 +110,18 @@ impl<'a, L: Label, W: Reach> Reach for RecordingWire<'a, L, W> {
     ghost reached = { λ w node. w.goes_on && W.reached w.wire.inner node };
 
     fn reaches<R: Wait>(&mut self, rt: &R, alloc: Global, to: u8) -> bool {
-        self.look(rt) && self.wire.reaches(rt, alloc, to)
+        self.look(rt).goes_on() && self.wire.reaches(rt, alloc, to)
+    }
+}
+
+impl<'a, L: Label, W: PeerWire> PeerWire for RecordingWire<'a, L, W> {
+    type Loss = W::Loss;
+
+    fn ask<R: Wait>(&mut self, rt: &R, alloc: Global, own: u8, to: u8) -> Result<(), WireError> {
+        self.wire.ask(rt, alloc, own, to)
+    }
+
+    fn take_losses(&mut self, alloc: Global) -> Vec<W::Loss> {
+        self.wire.take_losses(alloc)
     }
 }

@@ -1,21 +1,18 @@
 -- A piece of a node was written.
-use Rattle.std.proofs.Common.{◌≡◌, ℕ, ◌+◌, ◌-◌, ◌≤◌, arith, Bool, List, length, ap, Option}
+use Rattle.std.proofs.Common.{◌≡◌, ℕ, ◌+◌, ◌-◌, ◌≤◌, arith, Bool, List, length, refl, ap, Option}
 use Rattle.std.proofs.lemmas.List.{length-drop, length-map}
-use Rattle.std.proofs.lemmas.Option.{slice_get_within}
 use Rattle.node_calls.specs.declared.ask.Ask.{Ask}
-use Rattle.node_calls.specs.declared.receipt.Receipt.{Receipt}
 use Rattle.node_calls.specs.declared.reply.Reply.{Reply}
 use Rattle.node_calls.specs.Asks.{call_from}
-use Rattle.node_calls.specs.Told.{told}
 use Rattle.node_steps.specs.declared.config.Config.{Config}
 use Rattle.node_registry.specs.declared.guarded.Piece.{Piece}
 use Rattle.node_registry.specs.Cells.{Cell, IsCellSince}
-use Rattle.node_registry.specs.Pieces.{IsPieceOf}
-use Rattle.node_registry.specs.Receipts.{IsGiven}
+use Rattle.node_registry.specs.Pieces.{IsGivenCall, IsPieceOf}
+use Rattle.node_registry.specs.Receipts.{IsAnswered, receipt_of}
 use Rattle.node_registry.specs.Seats.{HasSameCalls, SeatState, gave}
 use Rattle.node_registry.proofs.SameCalls.{cell_as}
 use Rattle.part_keeper.specs.Kept.{IsRecorded}
-use Rattle.part_keeper.specs.Pieces.{Adds, Continues, HasCall, HasLine}
+use Rattle.part_keeper.specs.Pieces.{Adds, Continues, HasLine}
 
 -- all calls of a node are in a piece of it, or before it
 pub all_before : (c : Cell) (p : Piece) → IsPieceOf c p → length c.node.trace ≤ p.from + length p.trace.calls
@@ -61,22 +58,22 @@ module _ {W : Type 0} (contents : W → Option (List ℕ)) (config : Config) (se
       let whole = k.whole in
       omega (arith, since, whole)
 
-  pub has_line : (on : Continues contents config seed keeps seats seat old new had has) (ask : Ask) (reply : Reply)
-      (r : Receipt) → r.entry.ask ≡ ask → r.entry.reply ≡ reply → IsGiven config seed r → HasCall on.piece r →
+  -- by a call that was handed out with the piece
+  pub has_line : (was : SeatState) (ask : Ask) (reply : Reply) (p : Piece)
+      (h : IsGivenCall config seed keeps seats was seat ask reply p) → Adds contents old new had has p →
       HasLine contents config seed keeps seats seat old new had has ask reply
-  has_line on ask reply r asked answered given there =
-      let first = there.0 in
-      let inside = slice_get_within on.piece.trace.calls (r.index - on.piece.from) (told r.entry) there.1 in
-      let begins = on.added.begins in
-      let ends = on.added.ends in
+  has_line was ask reply p h added =
+      let last = h.gives.last in
+      let begins = added.begins in
+      let ends = added.ends in
       record {
-        on = on;
-        receipt = r;
-        asked = asked;
-        answered = answered;
-        given = given;
-        there = there;
-        within = omega (arith, first, inside, begins, ends);
+        on = continues h.after p h.held h.gives.given added;
+        receipt = receipt_of h.before h.gives.entry;
+        asked = h.gives.asked;
+        answered = h.gives.answered;
+        given = (h.before, h.after, h.since.0.lawful, h.gives.entered, refl);
+        there = h.gives.call;
+        last = omega (arith, last, begins, ends);
       }
 
   pub recorded : (ask : Ask) (reply : Reply) →
@@ -90,3 +87,17 @@ module _ {W : Type 0} (contents : W → Option (List ℕ)) (config : Config) (se
     among = h.there.1;
     written = h.on.added.lines;
   }
+
+pub given_answered : (config : Config) (seed : List ℕ) (keeps : Bool) (seats : ℕ) (had has : SeatState) (ask : Ask)
+    (reply : Reply) (p : Piece) → IsGivenCall config seed keeps seats had has ask reply p → IsAnswered config seed ask reply
+given_answered config seed keeps seats had has ask reply p h = (
+  receipt_of h.before h.gives.entry,
+  ap (λ (k : Config). k.node) h.since.0.lawful.1,
+  h.gives.asked,
+  h.gives.answered,
+  (h.before, h.after, h.since.0.lawful, h.gives.entered, refl),
+)
+
+pub counted_once : (config : Config) (seed : List ℕ) (keeps : Bool) (seats : ℕ) (had has : SeatState) (ask : Ask)
+    (reply : Reply) (p : Piece) → IsGivenCall config seed keeps seats had has ask reply p → has.calls ≡ had.calls + 1
+counted_once config seed keeps seats had has ask reply p h = ap (λ (s : SeatState). s.calls) h.counted

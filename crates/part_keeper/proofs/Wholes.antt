@@ -11,7 +11,7 @@ use Rattle.cluster_model.proofs.Lists.{get_append}
 use Rattle.drills.proofs.Growing.{both, none_yet}
 use Rattle.drills.specs.Lines.{entry}
 use Rattle.part_keeper.specs.Kept.{Records}
-use Rattle.part_keeper.specs.Pieces.{HasCall}
+use Rattle.node_registry.specs.Pieces.{HasCall}
 use Rattle.part_keeper.specs.Wholes.{AreAdded, AreFrom, Begins, Follows, IsFrom, IsWhole, calls_in, calls_of, told_in}
 
 -- ---- beginnings

@@ -14,9 +14,13 @@ use Rattle.drills.specs.Written.{ReadsBack}
 use Rattle.part_keeper.specs.declared.fault.CallFault.{CallFault}
 use Rattle.part_keeper.specs.declared.fault.CallFault.TheVariants as faults
 
--- bytes have these lines behind what they had, each of which reads back
-abbrev pub AddsLines : List ℕ → List ℕ → List LineTold → Type 0
-AddsLines old new lines = (new ≡ old ++ flat_map ended lines) × All ReadsBack lines
+-- a line was written after those that waited, or waits with them; it reads back
+pub record PutsLine {W : Type 0} (contents : W → Option (List ℕ)) (old new : W) (waited waits : List ℕ) (line : LineTold) :
+    Type 0 where
+  pub sent : List ℕ
+  pub written : Appends (contents old) (contents new) sent
+  pub all : sent ++ waits ≡ waited ++ ended line
+  pub reads : ReadsBack line
 
 -- a writer has the lines of these calls behind what it had, and nothing else
 abbrev pub Records : {W : Type 0} → (W → Option (List ℕ)) → W → W → List Told → Type 0

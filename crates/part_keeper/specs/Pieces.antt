@@ -1,23 +1,17 @@
 -- What a recording writes of its node's calls: pieces, each of which begins where the one before it ended.
-use Rattle.std.specs.Prelude.{◌≡◌, ℕ, ◌+◌, ◌-◌, ◌<◌, ◌≤◌, Bool, List, length, slice_get, Option, Some}
+use Rattle.std.specs.Prelude.{◌≡◌, ℕ, ◌+◌, ◌≤◌, Bool, List, length, Option}
 use Rattle.streams.specs.Watched.{inner_of}
 use Rattle.node_calls.specs.declared.ask.Ask.{Ask}
 use Rattle.node_calls.specs.declared.receipt.Receipt.{Receipt}
 use Rattle.node_calls.specs.declared.reply.Reply.{Reply}
-use Rattle.node_calls.specs.Told.{told}
 use Rattle.node_steps.specs.declared.config.Config.{Config}
 use Rattle.node_registry.specs.declared.guarded.Piece.{Piece}
 use Rattle.node_registry.specs.Cells.{Cell, IsCellSince}
-use Rattle.node_registry.specs.Pieces.{IsPieceOf}
+use Rattle.node_registry.specs.Pieces.{HasCall, IsPieceOf}
 use Rattle.node_registry.specs.Receipts.{IsGiven}
 use Rattle.node_registry.specs.Seats.{SeatState}
 use Rattle.part_keeper.specs.declared.journal.Journal.{Journal}
 use Rattle.part_keeper.specs.Kept.{Records}
-
--- the call of a receipt stands in a piece, at the place that its number says
-abbrev pub HasCall : Piece → Receipt → Type 0
-HasCall piece r =
-    (piece.from ≤ r.index) × (slice_get piece.trace.calls (r.index - piece.from) ≡ Some (told r.entry))
 
 -- the lines of a piece were written behind those of all calls before it
 pub record Adds {W : Type 0} (contents : W → Option (List ℕ)) (old new : W) (had has : ℕ) (piece : Piece) : Type 0 where
@@ -40,7 +34,7 @@ pub record Continues {W : Type 0} (contents : W → Option (List ℕ)) (config :
   pub added : Adds contents old new had has piece
   pub whole : length cell.node.trace ≤ has
 
--- and the call of a receipt is among them, which has this ask and this reply
+-- and the call of a receipt is the last of them, which has this ask and this reply
 pub record HasLine {W : Type 0} (contents : W → Option (List ℕ)) (config : Config) (seed : List ℕ) (keeps : Bool)
     (seats : ℕ) (seat : SeatState) (old new : W) (had has : ℕ) (ask : Ask) (reply : Reply) : Type 0 where
   pub on : Continues contents config seed keeps seats seat old new had has
@@ -49,4 +43,4 @@ pub record HasLine {W : Type 0} (contents : W → Option (List ℕ)) (config : C
   pub answered : receipt.entry.reply ≡ reply
   pub given : IsGiven config seed receipt
   pub there : HasCall on.piece receipt
-  pub within : receipt.index < has
+  pub last : receipt.index + 1 ≡ has

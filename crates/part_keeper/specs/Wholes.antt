@@ -5,9 +5,9 @@ use Rattle.node_calls.specs.Asks.{Call, call_from}
 use Rattle.node_calls.specs.Told.{Told, told}
 use Rattle.node_registry.specs.declared.guarded.Piece.{Piece}
 use Rattle.node_registry.specs.Cells.{Cell}
-use Rattle.node_registry.specs.Pieces.{IsPieceOf}
+use Rattle.node_registry.specs.Pieces.{HasCall, IsPieceOf}
 use Rattle.part_keeper.specs.Kept.{Records}
-use Rattle.part_keeper.specs.Pieces.{Adds, HasCall}
+use Rattle.part_keeper.specs.Pieces.{Adds}
 
 -- calls begin with these
 pub record Begins (calls all : List Call) : Type 0 where

@@ -1,51 +1,16 @@
 //! A journal that is written piece by piece.
 
-ghost use Rattle.std.specs.Prelude.{◌≡◌, ◌≤◌, ◌<◌, ◌↔◌, ◌-◌, ◌+◌, ◌^◌, true, false, not, length};
-ghost use Rattle.std.specs.Prelude.{IfOk, IfSome, IsErr, IsTrue, OnOk, Some, slice_get};
+ghost use Rattle.std.specs.Prelude.{◌≡◌, ◌<◌, ◌↔◌, ◌+◌, ◌^◌, true, false, not, length};
+ghost use Rattle.std.specs.Prelude.{IfSome, IsErr, OnOk};
 ghost use Rattle.streams.specs.Watched.{has_unflushed};
 ghost use Rattle.std.specs.Option.{is_some};
-ghost use Rattle.node_calls.specs.Told.{told};
-ghost use Rattle.packed_trace.specs.Packed.{seen_told};
-ghost use Rattle.part_keeper.specs.Pieces.{HasCall, Writes};
+ghost use Rattle.part_keeper.specs.Pieces.{Writes};
 
 use crate::fault::NotRecorded;
 use crate::lines::PartLines;
-use node_core::{Entry, Receipt, Reply, Seen};
 use node_registry::Piece;
 use std::alloc::Global;
 use std::io::Write;
-
-// The random draws of a call.
-fn words_of<'a>(seen: &'a Seen<'_>) -> &'a [u32]
-    ensures { result.now ≡ (seen_told seen.now).words }
-{
-    match seen {
-        Seen::Pass { word, .. } => word.as_slice(),
-        Seen::Entry(entry) => entry.words.as_slice(),
-    }
-}
-
-// Whether a call tells what an entry tells.
-fn is_told(seen: Seen<'_>, entry: &Entry) -> bool
-    ensures { IsTrue result ↔ (seen_told seen.entry ≡ told entry.now) }
-{
-    seen.ask().is_same(entry.ask.as_ref())
-        && words_of(&seen) == entry.words.as_slice()
-        && seen.reply().is_same(entry.reply.as_ref())
-}
-
-// Whether a piece has the call of a receipt at its place.
-fn has_call(piece: &Piece, receipt: &Receipt) -> bool
-    ensures { IsTrue result ↔ HasCall piece.now receipt.now }
-{
-    let Some(place) = receipt.index.checked_sub(piece.from) else {
-        return false;
-    };
-    match piece.trace.at(place as usize) {
-        Some(call) => is_told(call, &receipt.entry),
-        None => false,
-    }
-}
 
 /// Where the lines of a node's calls go, and how many of its calls have their line there.
 #[derive(Drop)]
@@ -103,33 +68,5 @@ impl<W: Write> Journal<W> {
         self.lines.keep(alloc, &piece.trace)?;
         self.calls = calls;
         Ok(())
-    }
-
-    /// Writes the lines of a piece that has the call of a receipt, and returns the reply to that call.
-    /// Nothing is written any more if the piece hasn't that call.
-    pub(crate) fn write_with(
-        &mut self,
-        alloc: Global,
-        piece: &Piece,
-        receipt: Receipt,
-    ) -> Result<Reply, NotRecorded>
-        ensures written { OnOk result (Writes W.contents self.old self.new piece.now) }
-        ensures call { OnOk result (HasCall piece.now receipt) }
-        ensures reply { IfOk result (λ reply. reply ≡ receipt.entry.reply) }
-        ensures flushed { OnOk result (has_unflushed self.new.lines.out ≡ false) }
-        ensures failed { IsErr result ↔ (self.new.lines.has_failed ≡ true) }
-    {
-        if !has_call(piece, &receipt) {
-            self.lines.end();
-            drop(receipt);
-            return Err(NotRecorded);
-        }
-        if let Err(fault) = self.write(alloc, piece) {
-            drop(receipt);
-            return Err(fault);
-        }
-        let Receipt { entry, .. } = receipt;
-        let Entry { reply, .. } = entry;
-        Ok(reply)
     }
 }

@@ -14,8 +14,8 @@ mod repeating;
 
 pub use bounded_line::read_line;
 pub use fault::{CallFault, LineFault, NotRecorded, PartFault};
-pub use lines::{PartLines, lines_of};
+pub use lines::PartLines;
 pub use part_file::PartFile;
 pub use recorder::Recorder;
-pub use recording::{AllWritten, Recording};
+pub use recording::{AllWritten, Recording, RecordingState};
 pub use repeating::{MOST_OF_LINE, Repeated, repeat_call, repeat_calls};

@@ -1,43 +1,31 @@
 //! The lines of a part that is written as its node goes on.
 
-ghost use Rattle.std.specs.Prelude.{◌≡◌, ◌↔◌, ◌∷◌, [], true, false, not, map, IsErr, IfOk, OnOk};
+ghost use Rattle.std.specs.Prelude.{◌≡◌, ◌↔◌, true, false, not, IsErr, OnOk};
 ghost use Rattle.std.specs.Io.KnownBytes.{Appends};
 ghost use Rattle.streams.specs.Watched.{has_unflushed, inner_of};
 ghost use Rattle.packed_trace.specs.Packed.{seen_told};
 ghost use Rattle.drills.specs.Lines.{entry as entry_line};
-ghost use Rattle.part_keeper.specs.Kept.{AddsLines, Records};
+ghost use Rattle.part_keeper.specs.Kept.{PutsLine, Records};
 
 use crate::fault::NotRecorded;
-use drills::entry_text;
-use node_core::{Seen, Trace};
-use std::alloc::{AllocError, Global};
+use drills::write_entry;
+use node_core::{AskRef, ReplyRef, Seen, Trace};
+use std::alloc::Global;
 use std::io;
 use std::io::Write;
 use streams::Watched;
 
-// Puts the line of a call behind lines, with the newline that ends it.
-fn put_line(alloc: Global, call: Seen<'_>, lines: &mut Vec<u8>) -> Result<(), AllocError>
-    ensures { OnOk result (AddsLines lines.old.items lines.new.items
-        (entry_line (seen_told call.entry) ∷ [])) }
-{
-    let mut line = entry_text(alloc, call)?;
-    line.push('\n')?;
-    lines.extend_from_slice(line.as_bytes())?;
-    Ok(())
-}
+/// How many bytes of lines wait to be written in one write. The line of a longer message is written
+/// piece by piece.
+const MOST_WAITING: usize = 1_048_576;
 
-/// The line of each call of a trace, with the newline that ends it. The only error is out of memory.
-pub fn lines_of(alloc: Global, trace: &Trace) -> Result<Vec<u8>, AllocError>
-    ensures { IfOk result (λ lines.
-        AddsLines [] lines.items (map entry_line trace.now.calls)) }
-{
-    let mut lines = Vec::new(alloc);
-    for index in 0..trace.len() {
-        if let Some(call) = trace.at(index) {
-            put_line(alloc, call, &mut lines)?;
-        }
+// How many bytes the message of a call has.
+fn message_len(call: Seen<'_>) -> usize {
+    match (call.ask(), call.reply()) {
+        (AskRef::Deliver { message }, _) => message.len(),
+        (_, ReplyRef::Emit(message)) => message.len(),
+        _ => 0,
     }
-    Ok(lines)
 }
 
 /// Where the lines of a part go, until one couldn't be written.
@@ -86,23 +74,38 @@ impl<W: Write> PartLines<W> {
         Ok(())
     }
 
-    fn put_lines(&mut self, alloc: Global, trace: &Trace) -> Result<(), NotRecorded>
+    // Writes the line of a call after those that wait, unless it can wait with them.
+    fn put_call(&mut self, alloc: Global, call: Seen<'_>, waiting: &mut Vec<u8>) -> io::Result<()>
+        ensures ok { OnOk result (PutsLine W.contents (inner_of self.old.out)
+            (inner_of self.new.out) waiting.old.items waiting.new.items
+            (entry_line (seen_told call.entry))) }
+        ensures same { self.new.has_failed ≡ self.old.has_failed }
+    {
+        if waiting.len().saturating_add(message_len(call)) <= MOST_WAITING {
+            return write_entry(alloc, call, waiting);
+        }
+        self.out.write_all(waiting.as_slice())?;
+        waiting.clear();
+        write_entry(alloc, call, &mut self.out)
+    }
+
+    fn put_lines(&mut self, alloc: Global, trace: &Trace) -> io::Result<()>
         ensures ok { OnOk result (Records W.contents (inner_of self.old.out)
             (inner_of self.new.out) trace.now.calls) }
         ensures flushed { OnOk result (has_unflushed self.new.out ≡ false) }
         ensures same { self.new.has_failed ≡ self.old.has_failed }
     {
-        let Ok(lines) = lines_of(alloc, trace) else {
-            return Err(NotRecorded);
-        };
-        match self.put(lines.as_slice()) {
-            Ok(()) => Ok(()),
-            Err(_) => Err(NotRecorded),
+        let mut waiting = Vec::new(alloc);
+        for index in 0..trace.len() {
+            if let Some(call) = trace.at(index) {
+                self.put_call(alloc, call, &mut waiting)?;
+            }
         }
+        self.put(waiting.as_slice())
     }
 
-    /// Writes the line of each call of a trace, all in one write, and flushes them. Once that fails
-    /// nothing is written any more.
+    /// Writes the line of each call of a trace, and flushes them: in one write, unless they are long. Once
+    /// that fails nothing is written any more.
     pub fn keep(&mut self, alloc: Global, trace: &Trace) -> Result<(), NotRecorded>
         ensures ok { OnOk result (Records W.contents (inner_of self.old.out)
             (inner_of self.new.out) trace.now.calls) }
@@ -115,9 +118,9 @@ impl<W: Write> PartLines<W> {
         }
         match self.put_lines(alloc, trace) {
             Ok(()) => Ok(()),
-            Err(fault) => {
+            Err(_) => {
                 self.has_failed = true;
-                Err(fault)
+                Err(NotRecorded)
             }
         }
     }

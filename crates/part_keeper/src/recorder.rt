@@ -6,7 +6,7 @@ ghost use Rattle.part_keeper.specs.Kept.{IsUnanswered};
 
 use crate::fault::{CallFault, NotRecorded};
 use crate::part_file::PartFile;
-use crate::recording::{AllWritten, Recording};
+use crate::recording::{AllWritten, Recording, RecordingState};
 use node_core::{Ask, Reply};
 use node_registry::{Label, Registry};
 use std::alloc::Global;
@@ -26,9 +26,9 @@ impl<L: Label> Recorder<L> {
         }
     }
 
-    /// Whether calls are still made, as `Recording::goes_on`.
-    pub fn goes_on<R: Wait>(&self, rt: &R) -> bool {
-        self.lock.lock(rt).goes_on()
+    /// Whether calls are still made, as `Recording::state`.
+    pub fn state<R: Wait>(&self, rt: &R) -> RecordingState {
+        self.lock.lock(rt).state()
     }
 
     /// The recording, which nobody else has as long as this is held.

@@ -49,6 +49,21 @@ impl<'m, L: Label> AllWritten<'m, L> {
     }
 }
 
+/// Whether calls are still made, as the recording had it when it was looked at. Only a recording makes one.
+#[derive(Clone, Copy, Debug, PartialEq, Eq)]
+pub struct RecordingState {
+    goes_on: bool,
+}
+
+impl RecordingState {
+    /// Whether calls are still made.
+    pub fn goes_on(self) -> bool
+        ensures { result ≡ self.goes_on }
+    {
+        self.goes_on
+    }
+}
+
 /// What a recorder's lock guards: the seat from which a node is called, and the journal, which has the line
 /// of each call of that seat, unless one couldn't be written.
 #[derive(Drop)]
@@ -76,10 +91,12 @@ impl<L: Label, W: Write> Recording<L, W> {
     }
 
     /// Whether calls are still made: until one couldn't be recorded.
-    pub fn goes_on(&self) -> bool
-        ensures { result ≡ not self.now.journal.lines.has_failed }
+    pub fn state(&self) -> RecordingState
+        ensures { result.goes_on ≡ not self.now.journal.lines.has_failed }
     {
-        self.journal.goes_on()
+        RecordingState {
+            goes_on: self.journal.goes_on(),
+        }
     }
 
     /// Makes a call, writes its line behind those of the calls that were made before, and then answers
@@ -108,14 +125,16 @@ impl<L: Label, W: Write> Recording<L, W> {
         if !self.journal.goes_on() {
             return Err(CallFault::RecordingFailed);
         }
-        let receipt = match registry.enter_owned(rt, alloc, &mut self.seat, ask) {
-            Ok(receipt) => receipt,
+        let (reply, piece) = match registry.submit_giving(rt, alloc, &mut self.seat, ask) {
+            Ok(given) => given,
             Err(fault) => return Err(CallFault::Refused(fault)),
         };
-        let piece = registry.give(rt, alloc, &mut self.seat);
-        match self.journal.write_with(alloc, &piece, receipt) {
-            Ok(reply) => Ok(reply),
-            Err(_) => Err(CallFault::NotRecorded),
+        match self.journal.write(alloc, &piece) {
+            Ok(()) => Ok(reply),
+            Err(_) => {
+                drop(reply);
+                Err(CallFault::NotRecorded)
+            }
         }
     }
 
@@ -145,11 +164,10 @@ impl<L: Label, W: Write> Recording<L, W> {
         ensures after { self.old.journal.lines.has_failed ≡ true
             → result ≡ Err CallFault.RecordingFailed }
     {
-        if !self.goes_on() {
+        if !self.state().goes_on() {
             return Err(CallFault::RecordingFailed);
         }
-        let answer = registry.make_batch(rt, alloc, &mut self.seat, batch);
-        let piece = registry.give(rt, alloc, &mut self.seat);
+        let (answer, piece) = registry.make_batch_giving(rt, alloc, &mut self.seat, batch);
         match self.journal.write(alloc, &piece) {
             Ok(()) => Ok(answer),
             Err(_) => Err(CallFault::NotRecorded),

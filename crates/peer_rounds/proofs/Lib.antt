@@ -1,2 +1,5 @@
+mod Attempts
+mod Greetings
+mod LossLemmas
 mod RoundLemmas
 mod SharingRounds

@@ -8,7 +8,7 @@ use Rattle.node_steps.specs.declared.config.Config.{Config}
 use Rattle.node_calls.specs.Asks.{Asked, bare_emit}
 use Rattle.command_line.specs.declared.peers.NamedPeer.{NamedPeer}
 use Rattle.node_registry.specs.Seats.{SeatState}
-use Rattle.gossip.specs.declared.news.Pace.{Pace}
+use Rattle.gossip_pace.specs.declared.news.Pace.{Pace}
 use Rattle.gossip.specs.declared.report.Ended.{Ended}
 use Rattle.gossip.specs.declared.report.Ended.TheVariants.{Done, OutOfMemory}
 use Rattle.gossip.specs.declared.report.GossipReport.{GossipReport}
@@ -17,7 +17,8 @@ use Rattle.gossip.specs.Parts.{IsPartOf, none, kept, left_out}
 use Rattle.gossip.specs.Reports.{IsTold, asked_in, asks_in, calls_of, is_delivery, is_emit, own_asks_in}
 use Rattle.gossip.specs.Traffic.{Traffic}
 use Rattle.gossip.proofs.RangeLemmas.{but, length_but, range_split}
-use Rattle.peer_rounds.specs.Rounds.{first_pace, is_named, is_told, most_peers, told_below}
+use Rattle.gossip_pace.specs.News.{first_pace}
+use Rattle.peer_rounds.specs.Rounds.{is_named, is_told, most_peers, told_below}
 
 are_emits : List Asked → Type 0
 are_emits [] = Unit {0}

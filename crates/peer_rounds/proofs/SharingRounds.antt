@@ -1,48 +1,40 @@
--- Rounds that share first, one more, and how many calls they make where rights stay.
-use Rattle.std.proofs.Common.{◌≡◌, ◌≤◌, ℕ, ◌+◌, ◌-◌, ◌*◌, ◌<◌, Bool, List, [], refl, ap, subst, arith, add-mul}
+-- How many calls rounds make where rights stay.
+use Rattle.std.proofs.Common.{◌≡◌, ◌≤◌, ℕ, ◌+◌, ◌*◌, Bool, List, [], refl, ap, subst, arith, add-mul}
 use Rattle.node_steps.specs.declared.config.Config.{Config}
 use Rattle.command_line.specs.declared.reading.Rights.{Rights}
 use Rattle.command_line.specs.declared.reading.Rights.TheVariants.{Stay}
 use Rattle.node_registry.specs.Seats.{SeatState}
+use Rattle.gossip.specs.Traffic.{Traffic}
+use Rattle.gossip_pace.specs.declared.news.Pace.{Pace}
 use Rattle.sharing.specs.Memory.{Recalled}
 use Rattle.peer_rounds.specs.Rounds.{most_calls}
-use Rattle.peer_rounds.specs.Sharing.{AreTold, IsSharedFirst}
+use Rattle.peer_rounds.specs.Sharing.{AreMade, AreRightsOf, IsSharedFirst}
 use Rattle.peer_rounds.specs.Sharing as sharing
+use Rattle.peer_rounds.specs.declared.round.RightsNow.{RightsNow}
+use Rattle.peer_rounds.specs.declared.round.Round.{Round}
 
-module _ (config : Config) (seed : List ℕ) (keeps : Bool) (seats : ℕ) where
-  -- however the rounds that are left go, all have gone so then
-  abbrev pub SoFar : Rights → ℕ → ℕ → SeatState → SeatState → List Recalled → Type 0
-  SoFar wanted rounds done start seat memory =
-      (has : SeatState) → AreTold wanted config seed keeps seats (rounds - done) seat has memory →
-      AreTold wanted config seed keeps seats rounds start has []
+module _ (config : Config) (seed : List ℕ) (keeps : Bool) (seats : ℕ) (says : ℕ → Bool → Type 0) where
+  unshared : (r : RightsNow) (had has : SeatState) (was now : List Recalled) → AreRightsOf Stay r →
+      IsSharedFirst r.rights config seed keeps seats had has was now → has ≡ had
+  unshared r had has was now stay first =
+      (subst (λ x. IsSharedFirst x config seed keeps seats had has was now) stay first).0
 
-  pub one_round : (wanted rights : Rights) (rounds done : ℕ) (start seat shared told : SeatState) (was now : List Recalled) →
-      done < rounds → SoFar wanted rounds done start seat was → (wanted ≡ Stay → rights ≡ Stay) →
-      IsSharedFirst rights config seed keeps seats seat shared was now → told.calls ≤ shared.calls + most_calls config →
-      SoFar wanted rounds (done + 1) start told now
-  one_round wanted rights rounds done start seat shared told was now below so_far stay first few has rest =
-      let left : rounds - (done + 1) + 1 ≡ rounds - done = omega (arith, below) in
-      so_far has (subst (λ n. AreTold wanted config seed keeps seats n seat has was) left
-      (sharing.told rights shared stay first few rest))
-
-  unshared : (rights : Rights) (had has : SeatState) (was now : List Recalled) → rights ≡ Stay →
-      IsSharedFirst rights config seed keeps seats had has was now → has ≡ had
-  unshared rights had has was now stay first =
-      (subst (λ r. IsSharedFirst r config seed keeps seats had has was now) stay first).0
-
-  few_told : (rounds : ℕ) (had has : SeatState) (memory : List Recalled) →
-      AreTold Stay config seed keeps seats rounds had has memory → has.calls ≤ had.calls + rounds * most_calls config
-  few_told rounds had has memory sharing.ended = omega arith
-  few_told rounds had has memory (sharing.told {rounds = left} {told = told} {was = was} {now = now} rights shared stay
-      first few rest) =
-      let more = few_told left told has now rest in
-      let same = ap (λ (s : SeatState). s.calls) (unshared rights had shared was now (stay refl) first) in
-      omega (arith, few, more, same, add-mul left 1 (most_calls config))
+  few_made : (had : SeatState) (before : Traffic) (ps : List Pace) (count : ℕ) (has : SeatState) (now : List Recalled)
+      (after : Traffic) (qs : List Pace) (rounds : List Round) (lost : Bool) →
+      AreMade config seed keeps seats says Stay had before ps count has now after qs rounds lost →
+      has.calls ≤ had.calls + count * most_calls config
+  few_made had before ps count has now after qs rounds lost sharing.none = omega arith
+  few_made had before ps count has now after qs rounds lost (sharing.more {count = n} {has = between} {now = was}
+      {amid = amid} {qs = middle} {rounds = first} {round = r} {lost = l} so_far round) =
+      let few = few_made had before ps n between was amid middle first l so_far in
+      let same = ap (λ (s : SeatState). s.calls) (unshared r.rights between round.shared was now round.rights round.first) in
+      omega (arith, few, round.few, same, add-mul n 1 (most_calls config))
 
   -- where rights stay a round makes no more calls than it does by itself
-  pub few_without : (wanted : Rights) (rounds : ℕ) (had has : SeatState) (memory : List Recalled) →
-      AreTold wanted config seed keeps seats rounds had has memory → wanted ≡ Stay →
-      has.calls ≤ had.calls + rounds * most_calls config
-  few_without wanted rounds had has memory all stay =
-      few_told rounds had has memory
-      (subst (λ r. AreTold r config seed keeps seats rounds had has memory) stay all)
+  pub few_without : (wanted : Rights) (had : SeatState) (before : Traffic) (ps : List Pace) (count : ℕ) (has : SeatState)
+      (now : List Recalled) (after : Traffic) (qs : List Pace) (rounds : List Round) (lost : Bool) →
+      AreMade config seed keeps seats says wanted had before ps count has now after qs rounds lost → wanted ≡ Stay →
+      has.calls ≤ had.calls + count * most_calls config
+  few_without wanted had before ps count has now after qs rounds lost made stay =
+      few_made had before ps count has now after qs rounds lost
+      (subst (λ r. AreMade config seed keeps seats says r had before ps count has now after qs rounds lost) stay made)

@@ -1,9 +1,13 @@
 -- Whom rounds of gossip of a served node tell, and what they cost it.
-use Rattle.std.specs.Prelude.{ℕ, Bool, ◌+◌, ◌==◌, ◌&&◌, not, false, List, length}
+use Rattle.std.specs.Prelude.{◌≡◌, [], ◌∷◌, true, if◌then◌else◌, ℕ, Bool, ◌+◌, ◌==◌, ◌&&◌, not, List, length}
 use Rattle.std.specs.List.{filter, list_any, range_with_len}
 use Rattle.node_steps.specs.declared.config.Config.{Config}
 use Rattle.command_line.specs.declared.peers.NamedPeer.{NamedPeer}
-use Rattle.gossip.specs.declared.news.Pace.{Pace}
+use Rattle.gossip_pace.specs.declared.news.Pace.{Pace}
+use Rattle.gossip_pace.specs.News.{asked_pace}
+use Rattle.peers.specs.declared.asked.AskState.{AskState}
+use Rattle.peer_rounds.specs.declared.served_wire.Calls.{Calls}
+use Rattle.peer_rounds.specs.declared.served_wire.Calls.TheVariants as calls
 use Rattle.gossip.specs.Reports.{others_below}
 use Rattle.http_posts.specs.declared.peer.Peer.{Peer}
 
@@ -29,17 +33,18 @@ is_told node named other = not (other == node) && is_named named other
 abbrev pub told_below : ℕ → ℕ → List NamedPeer → List ℕ
 told_below node n named = filter (is_told node named) (range_with_len 0 n)
 
--- the pace of a node that was never told
-abbrev pub first_pace : ℕ → Pace
-first_pace node = record {
-  node = node;
-  told_version = 0;
-  told_known = 0;
-  has_missed = false;
-  rest = 1;
-  waits = 0;
-}
+-- calls are made unless a recording doesn't go on
+abbrev pub are_made : Calls → Bool
+are_made calls.Unrecorded = true
+are_made (calls.Recorded state) = state.goes_on
 
--- one by which its node is told in the next round, though there may be no news, and though it wasn't reached before
-abbrev pub greeted : Pace → Pace
-greeted pace = record pace { told_known = 18446744073709551615; has_missed = false; waits = 0 }
+-- a peer that asked is told in the round, whether or not there is news
+abbrev pub greeted_by : AskState → Pace → Pace
+greeted_by asking pace = if asking.has_asked then asked_pace pace else pace
+
+-- each peer was looked for among those that asked
+pub data AreGreeted : List AskState → List Pace → List Pace → Type 0 where
+  nobody : AreGreeted [] [] []
+  greeted : {asking : AskState} {p : Pace} {all : List AskState} {ps qs : List Pace}
+      → asking.node ≡ p.node → AreGreeted all ps qs
+      → AreGreeted (asking ∷ all) (p ∷ ps) (greeted_by asking p ∷ qs)

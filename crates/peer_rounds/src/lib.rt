@@ -4,23 +4,28 @@
 //! ```rust
 //! let service = Service::new();
 //! // In a second thread, until the rounds are done or the service has ended:
-//! tell_peers(rt, registry, None, &mut seat, &telling, &heard, key, &service);
+//! let told = tell_peers(rt, registry, None, &mut seat, &telling, &heard, key, &service);
 //! // In the first one, after the last client:
-//! service.end();
-//! // After the rounds: whether a message from the wire ended them, since the node has lost its state.
-//! let lost = service.lost_state();
+//! service.end(rt);
+//! // After the rounds: why a message from the wire ended them, if it showed that the node has lost its state.
+//! let lost = told.rounds.loss.map(|shown| service.lost_state(&shown));
 //! ```
 #![tactic(auto)]
 
-mod forgetful;
 mod host;
+mod losses;
 mod peers;
+mod round;
 mod rounds;
+mod served_wire;
 mod service;
 mod taken;
 mod telling;
 
 pub use host::Host;
-pub use service::Service;
-pub use taken::note_taken;
-pub use telling::tell_peers;
+pub use round::{Early, RightsNow, Round, Rounds};
+pub use rounds::tell_over;
+pub use served_wire::{Calls, ServedWire};
+pub use service::{Loss, Service};
+pub use taken::{note_attempts, note_taken};
+pub use telling::{Over, Told, tell_peers};

@@ -1,7 +1,8 @@
 //! Whom a served node tells.
 
-ghost use Rattle.std.specs.Prelude.{◌≡◌, ◌≤◌, ◌<◌, ◌^◌, length, map, IfOk};
-ghost use Rattle.peer_rounds.specs.Rounds.{first_pace, is_named, is_told, peer_of, told_below};
+ghost use Rattle.std.specs.Prelude.{◌≡◌, ◌≤◌, ◌<◌, ◌^◌, [], length, map, IfOk};
+ghost use Rattle.gossip_pace.specs.News.{first_pace};
+ghost use Rattle.peer_rounds.specs.Rounds.{is_named, is_told, peer_of, told_below};
 
 use crate::host::Host;
 use command_line::NamedPeer;
@@ -34,6 +35,7 @@ pub(crate) fn wire_to<R: Host>(
 ) -> Result<HttpWire<R>, WireError>
     ensures peers { IfOk result (λ wire. wire.peers.items ≡ map peer_of named.now) }
     ensures key { IfOk result (λ wire. wire.key ≡ key) }
+    ensures sent { IfOk result (λ wire. wire.sent.items ≡ []) }
 {
     let peers = peers_of(rt.alloc(), named)?;
     HttpWire::new(*rt, peers, key)

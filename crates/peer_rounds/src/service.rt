@@ -1,11 +1,10 @@
 //! Whether a service has ended.
 
 ghost use Rattle.std.specs.Prelude.{◌≡◌, IfSome, IsSomeAnd, MatchOption, true};
-ghost use Rattle.peer_rounds.specs.Taken.{first_loss, is_loss};
+ghost use Rattle.peer_rounds.specs.Losses.{first_loss, is_loss};
 
 use gossip::Rejected;
 use node_core::NodeFault;
-use std::sync::atomic::{AtomicBool, Ordering};
 use std::sync::{OnceLock, OnceToken, Wait};
 use std::thread::Parker;
 use std::time::Duration;
@@ -30,7 +29,7 @@ fn first_loss(rejected: &[Rejected]) -> Option<NodeFault>
 
 /// The fault of a node that has lost its state.
 #[derive(Clone, Copy)]
-pub(crate) struct Loss {
+pub struct Loss {
     fault: NodeFault,
     ghost shown: { is_loss fault ≡ true },
 }
@@ -38,7 +37,7 @@ pub(crate) struct Loss {
 /// Whether a service has ended. Its end also ends a rest.
 #[derive(Drop)]
 pub struct Service {
-    has_ended: AtomicBool,
+    end: OnceLock<()>,
     loss: OnceLock<Loss>,
     sleeper: Parker,
 }
@@ -47,27 +46,32 @@ impl Service {
     /// One that goes on.
     pub fn new() -> Service {
         Service {
-            has_ended: AtomicBool::new(false),
+            end: OnceLock::new(),
             loss: OnceLock::new(),
             sleeper: Parker::new(),
         }
     }
 
     /// Ends it, and whoever rests.
-    pub fn end(&self) {
-        self.has_ended.store(true, Ordering::SeqCst);
+    pub fn end<R: Wait>(&self, rt: &R) {
+        let _ = self.end.try_insert(rt, ());
         self.sleeper.unpark();
     }
 
-    /// The first fault by which a message from a wire showed that the node has lost its state, if one did.
-    /// Then the rounds have ended, and the service is to end with that fault.
-    pub fn lost_state(&self) -> Option<NodeFault>
-        ensures { IfSome result (λ fault. is_loss fault ≡ true) }
+    /// What shows that a message from a wire showed that the node has lost its state, if one did.
+    pub fn loss(&self) -> Option<OnceToken<'_, Loss>>
+        ensures { IfSome result (λ token. token.of ≡ self.now.loss.id) }
     {
-        match self.loss.get() {
-            Some(loss) => Some(loss.fault),
-            None => None,
-        }
+        self.loss.witness()
+    }
+
+    /// The first fault by which a message from a wire showed that the node has lost its state.
+    pub fn lost_state<'a>(&'a self, shown: &OnceToken<'a, Loss>) -> NodeFault
+        requires { shown.now.of ≡ self.now.loss.id }
+        ensures fault { result ≡ shown.now.value.fault }
+        ensures loss { is_loss result ≡ true }
+    {
+        self.loss.value(shown).fault
     }
 
     /// Ends it where one of these messages shows that the node has lost its state, and answers what shows
@@ -81,12 +85,15 @@ impl Service {
             Ok(kept) => kept,
             Err((before, _)) => before,
         };
-        self.end();
+        self.end(rt);
         Some(kept)
     }
 
-    pub(crate) fn has_ended(&self) -> bool {
-        self.has_ended.load(Ordering::SeqCst)
+    /// What shows that it has ended, if it has.
+    pub(crate) fn ended(&self) -> Option<OnceToken<'_, ()>>
+        ensures { IfSome result (λ token. token.of ≡ self.now.end.id) }
+    {
+        self.end.witness()
     }
 
     /// Rests so long, or until the end.

@@ -1,7 +1,11 @@
 -- The JSON report has no numbers of JSON, and nests little: so its text says it whole.
 use Rattle.std.proofs.Common.{◌≡◌, ℕ, suc, ◌≤◌, Bool, true, false, List, [], ◌∷◌, Option, Some, None, map, option_map, option_and_then, refl, sym, ap, ◌∙◌, arith, append-nil, codes, decimal}
 use Rattle.std.specs.Prelude.{◌||◌, ◌==◌, if◌then◌else◌}
+use Rattle.std.specs.Cmp.Lexicographic.{slice_cmp}
 use Rattle.std.specs.Fmt.{signed_decimal}
+use Rattle.std.specs.Ordering.{match_ordering, nat_cmp}
+use Rattle.std.specs.declared.cmp.Ordering.{Ordering}
+use Rattle.std.specs.declared.cmp.Ordering.TheVariants.{Less, Equal, Greater}
 use Rattle.std.proofs.Math.Nat.{max-le}
 use Rattle.json.specs.Json as json
 use Rattle.json.specs.Tree.{HasNumbers, ItemsHaveNumbers, MembersHaveNumbers, json_tokens}
@@ -18,7 +22,10 @@ use Rattle.stamp_register.specs.Keys.{stamp_text}
 use Rattle.replica_state.specs.States.{State}
 use Rattle.report_text.specs.Report.{TermRow, PointRow, point_rows}
 use Rattle.report_text.specs.Status.{BudgetRow, BudgetsRow, all_budgets, budget_data, budgets_data, node_data, points_data, status_data}
+use Rattle.report_text.specs.Peers.{all_codes, code_name, count_of, counts_in, heard_data, number_data, peer_data, peers_data, peers_member, refused_data}
 use Rattle.report_text.specs.declared.node_json.NodeHead.{NodeHead}
+use Rattle.report_text.specs.declared.peer_rows.PeerRow.{PeerRow}
+use Rattle.report_text.specs.declared.peer_rows.RejectCode.{RejectCode}
 use Rattle.report_text.specs.Json.{list_data, rights_data, term_data, actions_data, point_data, report_data}
 
 -- a value that is read as itself, with no number, that nests no deeper than this
@@ -187,11 +194,70 @@ node_plain head v =
     (and_member (codes "version") (string_plain 5 _) (no_more 5)))))))
     refl
 
-status_plain : (head : NodeHead) (v : State) → IsPlain 7 (status_data head v)
-status_plain head v = object_plain 6 _ (and_member (codes "node") (node_plain head v) (no_more 6)) refl
+-- ---- the other nodes in it
 
-pub status_floatless : (head : NodeHead) (v : State) → has_float (status_data head v) ≡ false
-status_floatless head v = (status_plain head v).floatless
+or_left : (b c : Bool) → (b || c) ≡ false → b ≡ false
+or_left false c none = refl
+or_left true c none = none
+
+or_right : (b c : Bool) → (b || c) ≡ false → c ≡ false
+or_right false c none = none
+or_right true c none = let no : ⊥ = cc in absurd no
+
+-- a member that is put among others, wherever it comes to stand
+put_by : (order : Ordering) (here there more : Members) → members_have_float here ≡ false → members_have_float there ≡ false →
+    members_have_float more ≡ false → members_have_float (match_ordering order here there more) ≡ false
+put_by Less here there more h t m = h
+put_by Equal here there more h t m = t
+put_by Greater here there more h t m = m
+
+put_floatless : (k : List ℕ) (d : Data) (ms : Members) → has_float d ≡ false → members_have_float ms ≡ false →
+    members_have_float (put k d ms) ≡ false
+put_floatless k d no_members none all = ap (λ b. b || false) none
+put_floatless k d (member l e ms) none all =
+    let first = or_left (has_float e) (members_have_float ms) all in
+    let rest = or_right (has_float e) (members_have_float ms) all in
+    put_by (slice_cmp nat_cmp k l) (member k d (member l e ms)) (member l d ms) (member l e (put k d ms))
+    (ap (λ b. b || (has_float e || members_have_float ms)) none ∙ all)
+    (ap (λ b. b || members_have_float ms) none ∙ rest)
+    (ap (λ b. b || members_have_float (put k d ms)) first ∙ put_floatless k d ms none rest)
+
+counted_floatless : (is_none : Bool) (k : List ℕ) (d : Data) (ms : Members) → has_float d ≡ false →
+    members_have_float ms ≡ false → members_have_float (if is_none then ms else put k d ms) ≡ false
+counted_floatless true k d ms none all = all
+counted_floatless false k d ms none all = put_floatless k d ms none all
+
+counts_floatless : (refused : List ℕ) (codes : List RejectCode) → members_have_float (counts_in refused codes) ≡ false
+counts_floatless refused [] = refl
+counts_floatless refused (code ∷ rest) =
+    counted_floatless (count_of refused code == 0) (code_name code) (number_data (count_of refused code))
+    (counts_in refused rest) refl (counts_floatless refused rest)
+
+refused_floatless : (refused : List ℕ) → has_float (refused_data refused) ≡ false
+refused_floatless refused = counts_floatless refused all_codes
+
+heard_floatless : (heard : Option ℕ) → has_float (heard_data heard) ≡ false
+heard_floatless None = refl
+heard_floatless (Some at) = refl
+
+peer_floatless : (row : PeerRow) → has_float (peer_data row) ≡ false
+peer_floatless row =
+    ap (λ b. b || (false || (has_float (refused_data row.refused) || false))) (heard_floatless row.heard)
+    ∙ ap (λ b. b || false) (refused_floatless row.refused)
+
+rows_floatless : (rows : List PeerRow) → items_have_float (items_of (map peer_data rows)) ≡ false
+rows_floatless [] = refl
+rows_floatless (row ∷ rows) =
+    ap (λ b. b || items_have_float (items_of (map peer_data rows))) (peer_floatless row) ∙ rows_floatless rows
+
+peers_floatless : (peers : Option (List PeerRow)) → members_have_float (peers_member peers) ≡ false
+peers_floatless None = refl
+peers_floatless (Some rows) = ap (λ b. b || false) (rows_floatless rows)
+
+pub status_floatless : (head : NodeHead) (v : State) (peers : Option (List PeerRow)) →
+    has_float (status_data head v peers) ≡ false
+status_floatless head v peers =
+    ap (λ b. b || members_have_float (peers_member peers)) (node_plain head v).floatless ∙ peers_floatless peers
 
 -- the text of such a value is read as the value
 plain_read : (deep : ℕ) (d : Data) → deep ≤ max_depth → IsPlain deep d → read (compact_text d) ≡ Some d

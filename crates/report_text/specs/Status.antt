@@ -1,6 +1,7 @@
 -- The status of a node as JSON: what it is, how many calls it accepted, and of each counted term what each node granted
--- itself, spent and has left. Numbers are texts of decimal digits, as in a report.
-use Rattle.std.specs.Prelude.{ℕ, ℤ, List, Option, map, option_map, codes, decimal}
+-- itself, spent and has left; and, where the other nodes are shown, what was received from them. Numbers are texts of
+-- decimal digits, as in a report.
+use Rattle.std.specs.Prelude.{ℕ, ℤ, List, Option, map, option_map, codes}
 use Rattle.std.specs.List.{filter_map, range_with_len}
 use Rattle.actions.specs.Limits.{max_terms}
 use Rattle.serde_json.specs.Data.{Data, string, object, member, no_members}
@@ -11,6 +12,8 @@ use Rattle.operations.specs.Operations.{count_of}
 use Rattle.replica_state.specs.States.{State, granted_in, rights_of}
 use Rattle.report_text.specs.Report.{by_node}
 use Rattle.report_text.specs.Json.{hits_data, list_data, rights_data}
+use Rattle.report_text.specs.Peers.{number_data, peers_member}
+use Rattle.report_text.specs.declared.peer_rows.PeerRow.{PeerRow}
 use Rattle.report_text.specs.declared.node_json.NodeHead.{NodeHead}
 
 -- ---- the budgets that a node knows
@@ -60,9 +63,6 @@ all_budgets v nodes = filter_map (point_budgets v nodes) v.names
 
 -- ---- as JSON
 
-abbrev pub number_data : ℕ → Data
-number_data number = string (decimal number)
-
 abbrev pub budget_data : BudgetRow → Data
 budget_data row =
     object (member (codes "count") (number_data row.count)
@@ -93,9 +93,8 @@ node_data head v =
     (member (codes "points") (points_data v head.nodes)
     (member (codes "version") (string version_text) no_members))))))
 
--- the one member of this object is what the node knows; a program adds its own behind it
-abbrev pub status_data : NodeHead → State → Data
-status_data head v = object (member (codes "node") (node_data head v) no_members)
+abbrev pub status_data : NodeHead → State → Option (List PeerRow) → Data
+status_data head v peers = object (member (codes "node") (node_data head v) (peers_member peers))
 
-abbrev pub status_json_text : NodeHead → State → List ℕ
-status_json_text head v = compact_text (status_data head v)
+abbrev pub status_json_text : NodeHead → State → Option (List PeerRow) → List ℕ
+status_json_text head v peers = compact_text (status_data head v peers)

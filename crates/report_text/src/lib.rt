@@ -7,7 +7,10 @@ pub mod laws;
 mod lines_report;
 mod members;
 mod node_json;
+mod peer_rows;
+mod peers_json;
 
 pub use json_report::report_json;
 pub use lines_report::report_lines;
 pub use node_json::{NodeHead, status_json};
+pub use peer_rows::{CODES, PeerRow, RejectCode, SendFault, Sending};

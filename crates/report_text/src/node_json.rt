@@ -1,17 +1,20 @@
-//! What a node knows of itself and of all budgets, as JSON.
+//! What a node knows of itself, of all budgets and of the other nodes, as JSON.
 
-ghost use Rattle.std.specs.Prelude.{◌≡◌, map, IfOk, string_bytes};
+ghost use Rattle.std.specs.Prelude.{◌≡◌, map, option_map, IfOk, string_bytes};
 ghost use Rattle.serde_json.specs.View.{view};
 ghost use Rattle.stamp_register.specs.Keys.{key_value};
 ghost use Rattle.replica_state.specs.States.{granted_in};
 ghost use Rattle.report_text.specs.Report.{by_node};
 ghost use Rattle.report_text.specs.Json.{hits_data, list_data};
+ghost use Rattle.report_text.specs.Peers.{number_data};
 ghost use Rattle.report_text.specs.Status.{budget_data, budget_row, budget_rows, budgets_data};
 ghost use Rattle.report_text.specs.Status.{keyed_budgets, node_data, points_data};
-ghost use Rattle.report_text.specs.Status.{number_data, status_data, status_json_text};
+ghost use Rattle.report_text.specs.Status.{status_data, status_json_text};
 
 use crate::json_report::{list_value, number_value, push_value, rights_value};
 use crate::members::{with_member, with_number, with_stamp, with_text};
+use crate::peer_rows::PeerRow;
+use crate::peers_json::peers_member;
 use actions::{MAX_TERMS, Name};
 use operations::count_of;
 use replica_state::Replica;
@@ -190,25 +193,35 @@ fn node_value<R: Replica>(alloc: Global, replica: &R, head: NodeHead) -> Result<
     Ok(Value::Object(members))
 }
 
-/// An object of what a node knows.
-fn status_value<R: Replica>(alloc: Global, replica: &R, head: NodeHead) -> Result<Value, AllocError>
-    ensures { IfOk result (λ value. view value ≡ status_data head (R.state replica.now)) }
+/// An object of what a node knows, and of the other nodes, if they are given.
+fn status_value<R: Replica>(
+    alloc: Global,
+    replica: &R,
+    head: NodeHead,
+    peers: Option<&[PeerRow]>,
+) -> Result<Value, AllocError>
+    ensures { IfOk result (λ value. view value ≡ status_data head (R.state replica.now)
+        (option_map (λ rows. rows.now) peers.entry)) }
 {
     let node = node_value(alloc, replica, head)?;
-    Ok(Value::Object(with_member(alloc, Map::new(alloc), "node", node)?))
+    let members = peers_member(alloc, peers)?;
+    Ok(Value::Object(with_member(alloc, members, "node", node)?))
 }
 
-/// The status of a node as JSON with no spaces: an object whose one member, `node`, is what the node
-/// is, how many calls it accepted, and of each counted term of each point what each node granted
-/// itself, spent and has left. Its members stand in byte order, and its numbers are texts of decimal
-/// digits. A program that knows more puts its own members in the place of the last brace.
+/// The status of a node as JSON with no spaces. Its member `node` has what the node is, how many calls
+/// it accepted, and of each counted term of each point what each node granted itself, spent and has
+/// left. Its member `peers`, if the other nodes are given, has what was received from each of them.
+/// All members are in byte order, and numbers are texts of decimal digits.
+///
+/// Errors: out of memory.
 pub fn status_json<R: Replica>(
     alloc: Global,
     replica: &R,
     head: NodeHead,
+    peers: Option<&[PeerRow]>,
 ) -> Result<String, AllocError>
-    ensures { IfOk result
-        (λ text. string_bytes text ≡ status_json_text head (R.state replica.now)) }
+    ensures { IfOk result (λ text. string_bytes text ≡ status_json_text head
+        (R.state replica.now) (option_map (λ rows. rows.now) peers.entry)) }
 {
-    status_value(alloc, replica, head)?.to_string(alloc)
+    status_value(alloc, replica, head, peers)?.to_string(alloc)
 }

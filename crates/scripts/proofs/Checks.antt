@@ -99,8 +99,8 @@ numbered w c line = at (is_skipped line) (expected_in line)
 
 -- ---- what is said of lines
 
-module _ {S : Type 0} (said : Option WorldValue → S → List ℕ → List ℕ) (next : Option WorldValue → S → List ℕ → S)
-    (left : S → List ℕ) (lines : List (List ℕ)) (n : ℕ) where
+module _ {S A : Type 0} (said : Option WorldValue → S → List ℕ → List A) (next : Option WorldValue → S → List ℕ → S)
+    (left : S → List A) (lines : List (List ℕ)) (n : ℕ) where
   -- from a line on it begins with what is said of that line
   said-drop : (w : Option WorldValue) (s : S) (line : List ℕ) → n < length lines → line ≡ get_or lines n line →
       said_by said next left w s (drop n lines) ≡
@@ -110,7 +110,7 @@ module _ {S : Type 0} (said : Option WorldValue → S → List ℕ → List ℕ)
       ∙ ap (λ x. said w s x ++ said_by said next left (after_line w x) (next w s x) (drop (n + 1) lines)) (sym e)
 
   -- what was said, with what is said of a line, and of the lines after it
-  pub one_said : (w later_world : Option WorldValue) (s later : S) (m : ℕ) (line out longer all : List ℕ) →
+  pub one_said : (w later_world : Option WorldValue) (s later : S) (m : ℕ) (line : List ℕ) (out longer all : List A) →
       n < length lines → line ≡ get_or lines n line → m ≡ n + 1 →
       out ++ said_by said next left w s (drop n lines) ≡ all → longer ≡ out ++ said w s line →
       later_world ≡ after_line w line → later ≡ next w s line →
@@ -120,7 +120,7 @@ module _ {S : Type 0} (said : Option WorldValue → S → List ℕ → List ℕ)
       rw (grown, after, stepped, last) (rw append_assoc (ap (λ x. out ++ x) (sym next_one) ∙ so_far))
 
   -- behind the last line
-  pub all_said : (w : Option WorldValue) (s : S) (out longer all : List ℕ) → n ≡ length lines →
+  pub all_said : (w : Option WorldValue) (s : S) (out longer all : List A) → n ≡ length lines →
       out ++ said_by said next left w s (drop n lines) ≡ all → longer ≡ out ++ left s → longer ≡ all
   all_said w s out longer all e so_far grown =
       let none : said_by said next left w s (drop n lines) ≡ left s = at_drop_all (said_by said next left w s) lines n

@@ -5,3 +5,4 @@ pub mod Schedules
 pub mod LinesLeft
 pub mod Checks
 pub mod Counting
+pub mod Printed

@@ -7,7 +7,7 @@ use Rattle.node_core.specs.Traces.{Kept, state_known}
 use Rattle.operations.specs.Operations.{count_of}
 use Rattle.replica_state.specs.States.{State}
 use Rattle.stamp_register.specs.Keys.{KeyValue}
-use Rattle.streams.specs.Fields.{first_word, output_line}
+use Rattle.streams.specs.Fields.{first_word}
 use Rattle.scripts.specs.Script.{after_line}
 use Rattle.scripts.specs.Commands.{CommandValue, nodes, event, question, QuestionValue, list, report, rights, spent, hits}
 
@@ -103,23 +103,23 @@ why_missing (Some w) (Some (nodes count cap)) = None
 why_missing (Some w) (Some (event e)) = None
 why_missing (Some w) (Some (question node asked)) = missing_of w (slice_get w.nodes node) asked
 
--- ---- what is said
+-- ---- what is said, a line each
 
 -- of a line, by its number
-abbrev pub said_of : ℕ → List ℕ → List ℕ
-said_of number what = output_line (codes "line " ++ decimal number ++ codes ": " ++ what)
+abbrev pub said_of : ℕ → List ℕ → List (List ℕ)
+said_of number what = (codes "line " ++ decimal number ++ codes ": " ++ what) ∷ []
 
-abbrev pub bad_said : ℕ → Option (List ℕ) → List ℕ
+abbrev pub bad_said : ℕ → Option (List ℕ) → List (List ℕ)
 bad_said number None = []
 bad_said number (Some why) = said_of number (codes "bad line: " ++ why)
 
-abbrev pub missing_said : ℕ → Option (List ℕ) → List ℕ
+abbrev pub missing_said : ℕ → Option (List ℕ) → List (List ℕ)
 missing_said number None = []
 missing_said number (Some why) = said_of number why
 
 -- of lines, in their order, by a state that goes from line to line, and of what is left behind the last
-abbrev pub said_by : {S : Type 0} → (Option WorldValue → S → List ℕ → List ℕ) → (Option WorldValue → S → List ℕ → S) →
-    (S → List ℕ) → Option WorldValue → S → List (List ℕ) → List ℕ
+abbrev pub said_by : {S A : Type 0} → (Option WorldValue → S → List ℕ → List A) → (Option WorldValue → S → List ℕ → S) →
+    (S → List A) → Option WorldValue → S → List (List ℕ) → List A
 said_by said next left w s [] = left s
 said_by said next left w s (line ∷ lines) =
     said w s line ++ said_by said next left (after_line w line) (next w s line) lines

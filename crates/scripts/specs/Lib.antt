@@ -2,6 +2,7 @@ pub mod Commands
 pub mod Replies
 pub mod Questions
 pub mod Script
+pub mod Written
 pub mod Schedules
 pub mod Laws
 pub mod Faults

@@ -9,7 +9,9 @@ use Rattle.report_text.specs.Lines.{report_lines_text}
 use Rattle.cluster_model.specs.declared.fault.WorldFault.TheVariants.{NoNode}
 use Rattle.cluster_model.specs.Events.{WorldValue}
 use Rattle.scripts.specs.Commands.{QuestionValue, list, report, rights, spent, hits}
-use Rattle.scripts.specs.Replies.{refused_text}
+use Rattle.answers.specs.Answers.{AnswerValue}
+use Rattle.answers.specs.Answers as answers
+use Rattle.answers.specs.Lines.{refused_text}
 use Rattle.streams.specs.Fields.{output_line}
 
 -- a text that is no name names no point
@@ -38,3 +40,19 @@ question_output_at (Some k) question = question_output k question
 -- that of a node by its number, if there is one
 abbrev pub asked_output : WorldValue → ℕ → QuestionValue → List ℕ
 asked_output w node question = question_output_at (slice_get w.nodes node) question
+
+-- ---- the same as an answer
+
+abbrev pub question_answer : Kept → QuestionValue → AnswerValue
+question_answer k list = answers.listed (list_text (state_known k))
+question_answer k report = answers.report (state_known k) k.config.nodes
+question_answer k (rights name term node) = answers.rights (rights_named (state_known k) name term node)
+question_answer k (spent name term) = answers.spent (spent_named (state_known k) name term)
+question_answer k (hits name) = answers.hits (hits_named (state_known k) name)
+
+abbrev pub question_answer_at : Option Kept → QuestionValue → AnswerValue
+question_answer_at None question = answers.refused NoNode
+question_answer_at (Some k) question = question_answer k question
+
+abbrev pub asked_answer : WorldValue → ℕ → QuestionValue → AnswerValue
+asked_answer w node question = question_answer_at (slice_get w.nodes node) question

@@ -9,7 +9,8 @@ use Rattle.cluster_model.specs.Runs.{after_answer}
 use Rattle.streams.specs.Lines.{◌>>=◌, is_skipped, text_in}
 use Rattle.streams.specs.Fields.{lines_of}
 use Rattle.scripts.specs.Commands.{CommandValue, nodes, event, question, command_of}
-use Rattle.scripts.specs.Replies.{answer_text, refused_text, bad_line_text}
+use Rattle.answers.specs.Lines.{refused_text, bad_line_text}
+use Rattle.scripts.specs.Replies.{answer_text}
 use Rattle.streams.specs.Fields.{output_line}
 use Rattle.scripts.specs.Questions.{asked_output}
 

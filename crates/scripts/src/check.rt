@@ -1,46 +1,51 @@
 //! A script that is checked: what its lines print, and what is said of those that fail.
 
-ghost use Rattle.std.specs.Prelude.{◌≡◌, ◌++◌, ◌<◌, ◌≤◌, [], codes, false, length, option_map};
-ghost use Rattle.std.specs.Prelude.{string_bytes, IfOk, IfSome, OnOk};
+ghost use Rattle.std.specs.Prelude.{◌≡◌, ◌+◌, ◌++◌, ◌<◌, ◌≤◌, [], codes, false, length, option_map};
+ghost use Rattle.std.specs.Prelude.{IfOk, OnOk};
 ghost use Rattle.std.specs.List.{position_or_len};
+ghost use Rattle.answers.specs.Printing.{after_put};
 ghost use Rattle.streams.specs.Lines.{is_skipped};
-ghost use Rattle.scripts.specs.Checks.{answered_text, asked_said, begins, checked_text};
+ghost use Rattle.scripts.specs.Checks.{answered_text, asked_said, checked_answer, checked_lines};
 ghost use Rattle.scripts.specs.Checks.{expected_in, first_line, goes_on, is_alarm, is_left, is_line_end};
-ghost use Rattle.scripts.specs.Checks.{later_lines, line_checked, line_said, meets, missed};
-ghost use Rattle.scripts.specs.Checks.{checked_output, read_checked, read_said, settled, shown};
-ghost use Rattle.scripts.specs.Checks.{plain_output, skipping, taking, unchecked, waiting};
+ghost use Rattle.scripts.specs.Checks.{is_refused, later_lines, line_checked, line_said, meets, missed};
+ghost use Rattle.scripts.specs.Checks.{checked_output, settled, shown};
+ghost use Rattle.scripts.specs.Checks.{taking, unchecked, waiting};
 ghost use Rattle.scripts.specs.Commands.{command_value};
 ghost use Rattle.scripts.specs.Faults.{bad_said, missing_said, why_bad, why_missing};
 ghost use Rattle.scripts.specs.Checking.{checking_of};
-ghost use Rattle.scripts.specs.Schedules.{GoesOn, LineGoesOn, RunsAsSchedule};
-ghost use Rattle.scripts.specs.Script.{after_line, after_read, command_in, echo_of, line_output};
-ghost use Rattle.scripts.specs.Script.{read_output};
+ghost use Rattle.scripts.specs.Schedules.{LineGoesOn, RunsAsSchedule};
+ghost use Rattle.scripts.specs.Script.{after_line, command_in};
+ghost use Rattle.scripts.specs.Written.{format_of, line_answer};
 
 use crate::command::Command;
 use crate::faults::{say_bad, say_missing, say_of, why_bad, why_missing};
-use crate::script::{line_command, push_echo, run_read};
+use crate::form::Form;
+use crate::script::{line_command, run_read};
+use answers::{Kind, Printed};
 use cluster_model::World;
 use std::alloc::{AllocError, Global};
 use streams::{MOST_BYTES, is_skipped};
+use warnings::Warnings;
 
 /// A script that is read line by line: what its lines printed so far, and what was said of them.
 #[derive(Drop)]
 struct Check {
     // The number of the line that comes next.
     number: u32,
-    // That of the line that was answered last, what of its answer no line has expected yet, and
-    // whether one has expected some of it.
+    // That of the line that was answered last, the kind of its answer, what of this no line has
+    // expected yet, and whether one has expected some of it.
     asked: u32,
+    kind: Kind,
     rest: Vec<u8>,
     met: bool,
-    said: Vec<u8>,
+    said: Warnings,
 }
 
 /// What a script prints, and what is said of its lines that fail.
 #[derive(Drop)]
 pub(crate) struct Checked {
     pub(crate) printed: Vec<u8>,
-    pub(crate) said: Vec<u8>,
+    pub(crate) said: Warnings,
 }
 
 // The text that a line expects, if it expects one.
@@ -92,17 +97,29 @@ fn goes_on(front: &[u8], text: &[u8]) -> bool
     front.len() < text.len() && text[front.len()] == b' ' && text.starts_with(front)
 }
 
-// An answer is just what was expected, or a refusal that begins so.
-fn meets(expected: &[u8], answer: &[u8]) -> bool
-    ensures { result ≡ meets expected.now answer.now }
+fn is_refused(kind: Kind) -> bool
+    ensures { result ≡ is_refused kind }
 {
-    expected == answer || (answer.starts_with(b"refused ") && goes_on(expected, answer))
+    match kind {
+        Kind::Refused => true,
+        Kind::Unset | Kind::Other => false,
+    }
 }
 
-fn is_alarm(answer: &[u8]) -> bool
-    ensures { result ≡ is_alarm answer.now }
+// An answer of this kind is just what was expected, or a refusal that begins so.
+fn meets(kind: Kind, expected: &[u8], answer: &[u8]) -> bool
+    ensures { result ≡ meets kind expected.now answer.now }
 {
-    answer.starts_with(b"refused ") || answer == b"unset".as_slice()
+    expected == answer || (is_refused(kind) && goes_on(expected, answer))
+}
+
+fn is_alarm(kind: Kind) -> bool
+    ensures { result ≡ is_alarm kind }
+{
+    match kind {
+        Kind::Unset | Kind::Refused => true,
+        Kind::Other => false,
+    }
 }
 
 fn shown(text: &[u8]) -> &[u8]
@@ -115,14 +132,15 @@ fn shown(text: &[u8]) -> &[u8]
 fn say_missed(
     alloc: Global,
     number: u32,
+    kind: Kind,
     expected: &[u8],
     answer: &[u8],
-    said: &mut Vec<u8>,
+    said: &mut Warnings,
 ) -> Result<(), AllocError>
-    ensures { OnOk result (said.new.items
-        ≡ said.old.items ++ missed number expected.now answer.now) }
+    ensures { OnOk result (said.new
+        ≡ said.old ++ missed number kind expected.now answer.now) }
 {
-    if meets(expected, answer) {
+    if meets(kind, expected, answer) {
         return Ok(());
     }
     let mut what = Vec::new(alloc);
@@ -147,9 +165,9 @@ fn say_wrong(
     world: &Option<World>,
     line: &[u8],
     command: &Option<Command<'_>>,
-    said: &mut Vec<u8>,
+    said: &mut Warnings,
 ) -> Result<(), AllocError>
-    ensures { OnOk result (said.new.items ≡ said.old.items
+    ensures { OnOk result (said.new ≡ said.old
         ++ (bad_said number (why_bad world.now line.now (option_map command_value command.now))
         ++ missing_said number (why_missing world.now (option_map command_value command.now)))) }
 {
@@ -161,14 +179,15 @@ fn say_wrong(
 impl Check {
     fn new(alloc: Global) -> Check
         ensures state { checking_of result ≡ unchecked }
-        ensures said { result.said.items ≡ [] }
+        ensures said { result.said ≡ [] }
     {
         Check {
             number: 1,
             asked: 0,
+            kind: Kind::Other,
             rest: Vec::new(alloc),
             met: false,
-            said: Vec::new(alloc),
+            said: Warnings::new(alloc),
         }
     }
 
@@ -176,14 +195,14 @@ impl Check {
     fn is_left(&self) -> bool
         ensures { result ≡ is_left (checking_of self.now) }
     {
-        !self.rest.is_empty() && (self.met || is_alarm(first_line(&self.rest)))
+        !self.rest.is_empty() && (self.met || is_alarm(self.kind))
     }
 
     // Says so.
     fn settle(&mut self, alloc: Global) -> Result<(), AllocError>
         ensures state { OnOk result (checking_of self.new ≡ checking_of self.old) }
-        ensures said { OnOk result (self.new.said.items
-            ≡ self.old.said.items ++ settled (checking_of self.old)) }
+        ensures said { OnOk result (self.new.said
+            ≡ self.old.said ++ settled (checking_of self.old)) }
     {
         if !self.is_left() {
             return Ok(());
@@ -197,25 +216,37 @@ impl Check {
     fn take(&mut self, alloc: Global, expected: &[u8]) -> Result<(), AllocError>
         requires { self.old.number < 4294967295 }
         ensures state { OnOk result (checking_of self.new ≡ taking (checking_of self.old)) }
-        ensures said { OnOk result (self.new.said.items ≡ self.old.said.items
-            ++ missed self.old.number expected.now (first_line self.old.rest.items)) }
+        ensures said { OnOk result (self.new.said ≡ self.old.said
+            ++ missed self.old.number self.old.kind expected.now
+            (first_line self.old.rest.items)) }
     {
         let answer = first_line(&self.rest);
-        say_missed(alloc, self.number, expected, answer, &mut self.said)?;
+        say_missed(
+            alloc,
+            self.number,
+            self.kind,
+            expected,
+            answer,
+            &mut self.said,
+        )?;
         self.rest = Vec::from_slice(alloc, later_lines(&self.rest))?;
         self.met = true;
         self.number += 1;
         Ok(())
     }
 
-    // An answer waits to be expected.
-    fn wait(&mut self, alloc: Global, answer: &[u8]) -> Result<(), AllocError>
+    // The last answer that was printed waits to be expected.
+    fn wait(&mut self, alloc: Global, printed: &Printed) -> Result<(), AllocError>
         requires { self.old.number < 4294967295 }
-        ensures state { OnOk result (
-            checking_of self.new ≡ waiting (checking_of self.old) answer.now) }
-        ensures said { OnOk result (self.new.said.items ≡ self.old.said.items) }
+        ensures number { OnOk result (self.new.number ≡ self.old.number + 1) }
+        ensures asked { OnOk result (self.new.asked ≡ self.old.number) }
+        ensures kind { OnOk result (self.new.kind ≡ printed.now.kind) }
+        ensures rest { OnOk result (self.new.rest.items ≡ printed.now.line) }
+        ensures met { OnOk result (self.new.met ≡ false) }
+        ensures said { OnOk result (self.new.said ≡ self.old.said) }
     {
-        self.rest = Vec::from_slice(alloc, answer)?;
+        self.rest = Vec::from_slice(alloc, printed.line().as_bytes())?;
+        self.kind = printed.kind();
         self.asked = self.number;
         self.met = false;
         self.number += 1;
@@ -232,47 +263,12 @@ impl Check {
     ) -> Result<(), AllocError>
         requires { option_map command_value command.now ≡ command_in line.now }
         ensures state { OnOk result (checking_of self.new ≡ checking_of self.old) }
-        ensures said { OnOk result (self.new.said.items
-            ≡ self.old.said.items ++ asked_said world.now (checking_of self.old) line.now) }
+        ensures said { OnOk result (self.new.said
+            ≡ self.old.said ++ asked_said world.now (checking_of self.old) line.now) }
     {
         self.settle(alloc)?;
         say_wrong(alloc, self.number, world, line, command, &mut self.said)
     }
-}
-
-// What a line is answered, by what it asks for.
-fn answer_of(
-    alloc: Global,
-    world: &mut Option<World>,
-    command: Option<Command<'_>>,
-) -> Result<String, AllocError>
-    ensures text { IfOk result (λ text. string_bytes text
-        ≡ read_output world.old (option_map command_value command.entry)) }
-    ensures world { OnOk result (
-        world.new ≡ after_read world.old (option_map command_value command.entry)) }
-    ensures history { OnOk result (
-        IfSome (option_map command_value command.entry) (GoesOn world.old)) }
-{
-    let mut text = String::new(alloc);
-    run_read(alloc, world, command, &mut text)?;
-    Ok(text)
-}
-
-// Prints an answer, which waits to be expected.
-fn keep_answer(
-    alloc: Global,
-    check: &mut Check,
-    answer: &[u8],
-    printed: &mut Vec<u8>,
-) -> Result<(), AllocError>
-    requires { check.old.number < 4294967295 }
-    ensures printed { OnOk result (printed.new.items ≡ printed.old.items ++ answer.now) }
-    ensures state { OnOk result (
-        checking_of check.new ≡ waiting (checking_of check.old) answer.now) }
-    ensures said { OnOk result (check.new.said.items ≡ check.old.said.items) }
-{
-    printed.extend_from_slice(answer)?;
-    check.wait(alloc, answer)
 }
 
 // A line that asks for something, and is neither skipped nor expects.
@@ -281,23 +277,23 @@ fn ask_line(
     world: &mut Option<World>,
     check: &mut Check,
     line: &[u8],
-    printed: &mut Vec<u8>,
+    printed: &mut Printed,
 ) -> Result<(), AllocError>
     requires number { check.old.number < 4294967295 }
     requires read { is_skipped line.now ≡ false }
     ensures printed { OnOk result (
-        printed.new.items ≡ printed.old.items ++ line_output world.old line.now) }
-    ensures said { OnOk result (check.new.said.items
-        ≡ check.old.said.items ++ asked_said world.old (checking_of check.old) line.now) }
+        printed.new ≡ after_put printed.old (line_answer world.old line.now)) }
+    ensures said { OnOk result (check.new.said
+        ≡ check.old.said ++ asked_said world.old (checking_of check.old) line.now) }
     ensures state { OnOk result (checking_of check.new
-        ≡ waiting (checking_of check.old) (line_output world.old line.now)) }
+        ≡ waiting (checking_of check.old) (line_answer world.old line.now)) }
     ensures world { OnOk result (world.new ≡ after_line world.old line.now) }
     ensures history { OnOk result (LineGoesOn world.old line.now) }
 {
     let command = line_command(alloc, line)?;
     check.say_asked(alloc, world, line, &command)?;
-    let text = answer_of(alloc, world, command)?;
-    keep_answer(alloc, check, text.as_bytes(), printed)
+    run_read(alloc, world, command, printed)?;
+    check.wait(alloc, printed)
 }
 
 // Any line.
@@ -306,13 +302,13 @@ fn check_line(
     world: &mut Option<World>,
     check: &mut Check,
     line: &[u8],
-    printed: &mut Vec<u8>,
+    printed: &mut Printed,
 ) -> Result<(), AllocError>
     requires { check.old.number < 4294967295 }
     ensures printed { OnOk result (
-        printed.new.items ≡ printed.old.items ++ plain_output world.old line.now) }
-    ensures said { OnOk result (check.new.said.items
-        ≡ check.old.said.items ++ line_said world.old (checking_of check.old) line.now) }
+        printed.new ≡ after_put printed.old (checked_answer world.old line.now)) }
+    ensures said { OnOk result (check.new.said
+        ≡ check.old.said ++ line_said world.old (checking_of check.old) line.now) }
     ensures state { OnOk result (checking_of check.new
         ≡ line_checked world.old (checking_of check.old) line.now) }
     ensures world { OnOk result (world.new ≡ after_line world.old line.now) }
@@ -320,70 +316,73 @@ fn check_line(
 {
     if is_skipped(line) {
         check.number += 1;
+        printed.put_none();
         return Ok(());
     }
     match expected_in(line) {
-        Some(expected) => check.take(alloc, expected),
+        Some(expected) => {
+            printed.put_none();
+            check.take(alloc, expected)
+        }
         None => ask_line(alloc, world, check, line, printed),
     }
 }
 
-// The same, with the line before what it prints where that is asked for.
-fn check_echoing(
+// Any line, printed in this form.
+fn check_printing(
     alloc: Global,
-    echo: bool,
+    form: Form,
     world: &mut Option<World>,
     check: &mut Check,
     line: &[u8],
-    printed: &mut Vec<u8>,
+    printed: &mut Printed,
 ) -> Result<(), AllocError>
-    requires { check.old.number < 4294967295 }
+    requires number { check.old.number < 4294967295 }
+    requires format { printed.old.format ≡ format_of form }
+    ensures format { OnOk result (printed.new.format ≡ printed.old.format) }
     ensures printed { OnOk result (
-        printed.new.items ≡ printed.old.items ++ checked_output echo world.old line.now) }
-    ensures said { OnOk result (check.new.said.items
-        ≡ check.old.said.items ++ line_said world.old (checking_of check.old) line.now) }
+        printed.new.bytes ≡ printed.old.bytes ++ checked_output form world.old line.now) }
+    ensures said { OnOk result (check.new.said
+        ≡ check.old.said ++ line_said world.old (checking_of check.old) line.now) }
     ensures state { OnOk result (checking_of check.new
         ≡ line_checked world.old (checking_of check.old) line.now) }
     ensures world { OnOk result (world.new ≡ after_line world.old line.now) }
     ensures history { OnOk result (LineGoesOn world.old line.now) }
 {
-    if echo {
-        push_echo(printed, line)?;
-    }
+    form.push_echo(line, printed)?;
     check_line(alloc, world, check, line, printed)
 }
 
-/// What a script that is checked prints, perhaps with each line before it, and what is said of its
-/// lines that fail.
+/// What a script that is checked prints in a form, and what is said of its lines that fail.
 pub(crate) fn checked_output_of(
     alloc: Global,
+    form: Form,
     script: &[u8],
-    echo: bool,
 ) -> Result<Checked, AllocError>
     requires { length script.now ≤ MOST_BYTES }
-    ensures printed { IfOk result (λ c. c.printed.items ≡ answered_text echo script.now) }
-    ensures said { IfOk result (λ c. c.said.items ≡ checked_text script.now) }
+    ensures printed { IfOk result (λ c. c.printed.items ≡ answered_text form script.now) }
+    ensures said { IfOk result (λ c. c.said ≡ checked_lines script.now) }
     ensures schedule { OnOk result (RunsAsSchedule script.now) }
 {
     let mut world = None;
     let mut check = Check::new(alloc);
-    let mut printed = Vec::new(alloc);
+    let mut printed = Printed::new(alloc, form.format());
     for line in script.split(|byte| *byte == b'\n') {
-        check_echoing(alloc, echo, &mut world, &mut check, line, &mut printed)?;
+        check_printing(alloc, form, &mut world, &mut check, line, &mut printed)?;
     }
     check.settle(alloc)?;
     Ok(Checked {
-        printed,
+        printed: printed.into_bytes(),
         said: check.said,
     })
 }
 
 /// What is said of the lines of a script that fail, as `run_script_checked` says it: nothing, where none
 /// does.
-pub fn checked_text_of(alloc: Global, script: &[u8]) -> Result<Vec<u8>, AllocError>
+pub fn checked_warnings_of(alloc: Global, script: &[u8]) -> Result<Warnings, AllocError>
     requires { length script.now ≤ MOST_BYTES }
-    ensures { IfOk result (λ said. said.items ≡ checked_text script.now) }
+    ensures { IfOk result (λ said. said ≡ checked_lines script.now) }
 {
-    let checked = checked_output_of(alloc, script, false)?;
+    let checked = checked_output_of(alloc, Form::Plain, script)?;
     Ok(checked.said)
 }

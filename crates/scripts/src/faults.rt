@@ -1,12 +1,11 @@
 //! What is wrong with a line, in words.
 
-ghost use Rattle.std.specs.Prelude.{◌≡◌, ◌++◌, codes, decimal, is_some, option_map, slice_get, string_bytes};
+ghost use Rattle.std.specs.Prelude.{◌≡◌, ◌++◌, is_some, option_map, slice_get, string_bytes};
 ghost use Rattle.std.specs.Prelude.{IfOk, OnOk};
 ghost use Rattle.node_core.specs.Traces.{state_known};
 ghost use Rattle.operations.specs.Counts.{given_key};
 ghost use Rattle.operations.specs.Operations.{count_of};
 ghost use Rattle.stamp_register.specs.Keys.{key_value};
-ghost use Rattle.streams.specs.Fields.{output_line};
 ghost use Rattle.scripts.specs.Commands.{command_value, question_value};
 ghost use Rattle.scripts.specs.Faults.{bad_said, ends_with_return, first_of_both, form_of};
 ghost use Rattle.scripts.specs.Faults.{key_named, missing_at, missing_said, no_node, no_point};
@@ -22,6 +21,7 @@ use replica_state::Replica;
 use stamp_register::Key;
 use std::alloc::{AllocError, Global};
 use streams::{first_word, text_of};
+use warnings::Warnings;
 
 /// Why something is wrong, in words; none where nothing is.
 type Why = Option<&'static str>;
@@ -208,21 +208,17 @@ pub(crate) fn why_missing(
 }
 
 /// Says something of a line, by its number.
-pub fn say_of(alloc: Global, number: u32, what: &[u8], out: &mut Vec<u8>) -> Result<(), AllocError>
-    ensures { OnOk result (out.new.items ≡ out.old.items ++ said_of number what.now) }
+pub fn say_of(
+    alloc: Global,
+    number: u32,
+    what: &[u8],
+    said: &mut Warnings,
+) -> Result<(), AllocError>
+    ensures { OnOk result (said.new ≡ said.old ++ said_of number what.now) }
 {
-    push_number_of_line(alloc, number, out)?;
-    out.extend_from_slice(what)?;
-    out.push(b'\n')?;
-    Ok(())
-}
-
-fn push_number_of_line(alloc: Global, number: u32, out: &mut Vec<u8>) -> Result<(), AllocError>
-    ensures { OnOk result (out.new.items
-        ≡ out.old.items ++ (codes "line " ++ decimal number ++ codes ": ")) }
-{
-    let front = format!(in alloc; "line {number}: ")?;
-    out.extend_from_slice(front.as_bytes())
+    let mut line = format!(in alloc; "line {number}: ")?.into_bytes();
+    line.extend_from_slice(what)?;
+    said.push(line)
 }
 
 /// Says why a line is bad, if it is.
@@ -230,16 +226,16 @@ pub(crate) fn say_bad(
     alloc: Global,
     number: u32,
     why: Why,
-    out: &mut Vec<u8>,
+    said: &mut Warnings,
 ) -> Result<(), AllocError>
-    ensures { OnOk result (out.new.items
-        ≡ out.old.items ++ bad_said number (option_map (λ why. why.now) why.entry)) }
+    ensures { OnOk result (said.new
+        ≡ said.old ++ bad_said number (option_map (λ why. why.now) why.entry)) }
 {
     let Some(why) = why else {
         return Ok(());
     };
-    let text = format!(in alloc; "bad line: {why}")?;
-    say_of(alloc, number, text.as_bytes(), out)
+    let what = format!(in alloc; "bad line: {why}")?;
+    say_of(alloc, number, what.as_bytes(), said)
 }
 
 /// Says what of a line isn't there, if something isn't.
@@ -247,13 +243,13 @@ pub(crate) fn say_missing(
     alloc: Global,
     number: u32,
     why: Why,
-    out: &mut Vec<u8>,
+    said: &mut Warnings,
 ) -> Result<(), AllocError>
-    ensures { OnOk result (out.new.items
-        ≡ out.old.items ++ missing_said number (option_map (λ why. why.now) why.entry)) }
+    ensures { OnOk result (said.new
+        ≡ said.old ++ missing_said number (option_map (λ why. why.now) why.entry)) }
 {
     match why {
-        Some(why) => say_of(alloc, number, why.as_bytes(), out),
+        Some(why) => say_of(alloc, number, why.as_bytes(), said),
         None => Ok(()),
     }
 }

@@ -1,34 +1,32 @@
 //! What a node is asked of what it knows, and what it prints.
 
-ghost use Rattle.std.specs.Prelude.{◌≡◌, false, IsOk, IfOk, Some, None, if◌then◌else◌};
+ghost use Rattle.std.specs.Prelude.{◌≡◌, false, IsOk, IfOk, OnOk, Some, None, if◌then◌else◌};
 ghost use Rattle.actions.specs.Names.{is_name};
 ghost use Rattle.node_core.specs.Traces.{state_known};
 ghost use Rattle.scripts.specs.Commands.{question_value, list, report, rights, spent, hits};
-ghost use Rattle.scripts.specs.Replies.{Prints};
-ghost use Rattle.scripts.specs.Questions.{question_output, asked_output};
+ghost use Rattle.answers.specs.Printing.{after_put};
+ghost use Rattle.scripts.specs.Questions.{asked_answer, question_answer};
 ghost use Rattle.scripts.specs.Questions.{hits_named, rights_named, spent_named};
 
 use crate::command::Question;
-use crate::reply::print_refusal;
+use crate::reply::put_refusal;
 use actions::{Name, NameFault};
+use answers::{Answer, Printed};
 use cluster_model::{World, WorldFault};
 use node_core::NodeCore;
-use report_text::report_lines;
 use std::alloc::{AllocError, Global};
-use std::fmt::Write;
 
-fn print_list(alloc: Global, node: &NodeCore, out: &mut String) -> Result<(), AllocError>
-    ensures { Prints result out.old out.new (question_output node.now list) }
+fn put_list(alloc: Global, node: &NodeCore, out: &mut Printed) -> Result<(), AllocError>
+    ensures { OnOk result (out.new ≡ after_put out.old (Some (question_answer node.now list))) }
 {
     let list = node.list(alloc)?;
-    writeln!(out, "{list}")
+    out.put(alloc, Answer::Listed(&list))
 }
 
-fn print_report(alloc: Global, node: &NodeCore, out: &mut String) -> Result<(), AllocError>
-    ensures { Prints result out.old out.new (question_output node.now report) }
+fn put_report(alloc: Global, node: &NodeCore, out: &mut Printed) -> Result<(), AllocError>
+    ensures { OnOk result (out.new ≡ after_put out.old (Some (question_answer node.now report))) }
 {
-    let lines = report_lines(alloc, node.state(), node.config().nodes)?;
-    out.push_str(&lines)
+    out.put(alloc, Answer::Report(node))
 }
 
 /// The name that a text is, if it is one.
@@ -59,18 +57,19 @@ fn rights_named(
     }
 }
 
-fn print_rights(
+fn put_rights(
     alloc: Global,
     node: &NodeCore,
     name: &str,
     term: u8,
     of: u8,
-    out: &mut String,
+    out: &mut Printed,
 ) -> Result<(), AllocError>
-    ensures { Prints result out.old out.new (question_output node.now (rights name.now term of)) }
+    ensures { OnOk result (out.new
+        ≡ after_put out.old (Some (question_answer node.now (rights name.now term of)))) }
 {
     let rights = rights_named(alloc, node, name, term, of)?;
-    writeln!(out, "{rights}")
+    out.put(alloc, Answer::Rights(rights))
 }
 
 fn spent_named(alloc: Global, node: &NodeCore, name: &str, term: u8) -> Result<u128, AllocError>
@@ -82,17 +81,18 @@ fn spent_named(alloc: Global, node: &NodeCore, name: &str, term: u8) -> Result<u
     }
 }
 
-fn print_spent(
+fn put_spent(
     alloc: Global,
     node: &NodeCore,
     name: &str,
     term: u8,
-    out: &mut String,
+    out: &mut Printed,
 ) -> Result<(), AllocError>
-    ensures { Prints result out.old out.new (question_output node.now (spent name.now term)) }
+    ensures { OnOk result (out.new
+        ≡ after_put out.old (Some (question_answer node.now (spent name.now term)))) }
 {
     let spent = spent_named(alloc, node, name, term)?;
-    writeln!(out, "{spent}")
+    out.put(alloc, Answer::Spent(spent))
 }
 
 fn hits_named(alloc: Global, node: &NodeCore, name: &str) -> Result<u128, AllocError>
@@ -104,49 +104,45 @@ fn hits_named(alloc: Global, node: &NodeCore, name: &str) -> Result<u128, AllocE
     }
 }
 
-fn print_hits(
-    alloc: Global,
-    node: &NodeCore,
-    name: &str,
-    out: &mut String,
-) -> Result<(), AllocError>
-    ensures { Prints result out.old out.new (question_output node.now (hits name.now)) }
+fn put_hits(alloc: Global, node: &NodeCore, name: &str, out: &mut Printed) -> Result<(), AllocError>
+    ensures { OnOk result (out.new
+        ≡ after_put out.old (Some (question_answer node.now (hits name.now)))) }
 {
     let hits = hits_named(alloc, node, name)?;
-    writeln!(out, "{hits}")
+    out.put(alloc, Answer::Hits(hits))
 }
 
 fn ask_node(
     alloc: Global,
     node: &NodeCore,
     question: Question<'_>,
-    out: &mut String,
+    out: &mut Printed,
 ) -> Result<(), AllocError>
-    ensures { Prints result out.old out.new
-        (question_output node.now (question_value question.entry)) }
+    ensures { OnOk result (out.new ≡ after_put out.old
+        (Some (question_answer node.now (question_value question.entry)))) }
 {
     match question {
-        Question::List => print_list(alloc, node, out),
-        Question::Report => print_report(alloc, node, out),
-        Question::Rights { name, term, of } => print_rights(alloc, node, name, term, of, out),
-        Question::Spent { name, term } => print_spent(alloc, node, name, term, out),
-        Question::Hits { name } => print_hits(alloc, node, name, out),
+        Question::List => put_list(alloc, node, out),
+        Question::Report => put_report(alloc, node, out),
+        Question::Rights { name, term, of } => put_rights(alloc, node, name, term, of, out),
+        Question::Spent { name, term } => put_spent(alloc, node, name, term, out),
+        Question::Hits { name } => put_hits(alloc, node, name, out),
     }
 }
 
 /// Asks a node, by its number, and prints what it answers.
-pub fn ask(
+pub(crate) fn ask(
     alloc: Global,
     world: &World,
     node: u8,
     question: Question<'_>,
-    out: &mut String,
+    out: &mut Printed,
 ) -> Result<(), AllocError>
-    ensures { Prints result out.old out.new
-        (asked_output world.now node (question_value question.entry)) }
+    ensures { OnOk result (out.new ≡ after_put out.old
+        (Some (asked_answer world.now node (question_value question.entry)))) }
 {
     match world.node(node) {
         Some(core) => ask_node(alloc, core, question, out),
-        None => print_refusal(out, WorldFault::NoNode),
+        None => put_refusal(alloc, WorldFault::NoNode, out),
     }
 }

@@ -1,116 +1,47 @@
-//! What an event is answered, as a line of the output.
+//! What an event is answered.
 
-ghost use Rattle.std.specs.Prelude.{◌≡◌, ◌≢◌, ◌++◌, ℕ, IfOk, IsOk, OnOk, codes, decimal};
-ghost use Rattle.actions.specs.Canonical.{task_text};
-ghost use Rattle.actions.specs.Value.{task_value};
-ghost use Rattle.stamp_register.specs.Keys.{stamp_text};
+ghost use Rattle.std.specs.Prelude.{◌≡◌, ◌≢◌, ℕ, IfOk, IsOk, OnOk, Some};
 ghost use Rattle.node_calls.specs.Asks.{answered_from};
-ghost use Rattle.node_calls.specs.Told.{passed_ref, reply_ref_told, Act};
+ghost use Rattle.node_calls.specs.Told.{passed_ref, reply_ref_told};
 ghost use Rattle.node_calls.specs.declared.fault.NodeFault.TheVariants.{OutOfMemory};
 ghost use Rattle.cluster_model.specs.declared.fault.WorldFault.TheVariants.{Refused};
-ghost use Rattle.scripts.specs.Replies.{Prints, PrintsLine, bad_line_text, pass_text, refused_text};
-ghost use Rattle.scripts.specs.Replies.{reply_text};
+ghost use Rattle.answers.specs.Answers.{answer_value, refused};
+ghost use Rattle.answers.specs.Printing.{after_put};
+ghost use Rattle.scripts.specs.Replies.{pass_answer, reply_answer};
 
-use actions::Task;
+use answers::{Answer, Printed};
 use cluster_model::WorldFault;
-use itoa::Buffer;
 use node_core::{NodeFault, PassReplyRef, ReplyRef};
-use stamp_register::Stamp;
-use std::alloc::AllocError;
-use std::fmt::Write;
+use std::alloc::{AllocError, Global};
 
-// A formatter prints the same and takes longer, and passes are most of a script.
-fn print_number(out: &mut String, number: u64) -> Result<(), AllocError>
-    ensures { Prints result out.old out.new (decimal number) }
-{
-    out.push_str(Buffer::new().format(number))
-}
-
-fn print_stamp(out: &mut String, stamp: Stamp) -> Result<(), AllocError>
-    ensures { Prints result out.old out.new (stamp_text stamp) }
-{
-    print_number(out, stamp.clock)?;
-    out.push_str(".")?;
-    print_number(out, u64::from(stamp.node))
-}
-
-// A line of a word alone.
-fn print_alone(out: &mut String, word: &str) -> Result<(), AllocError>
-    ensures { PrintsLine result out.old out.new word.now }
-{
-    out.push_str(word)?;
-    out.push_str("\n")
-}
-
-// A line that begins so and ends with a stamp.
-fn print_stamped(out: &mut String, front: &str, stamp: Stamp) -> Result<(), AllocError>
-    ensures { PrintsLine result out.old out.new (front.now ++ stamp_text stamp) }
-{
-    writeln!(out, "{front}{stamp}")
-}
-
-// A line that begins so and ends with a number.
-fn print_counted(out: &mut String, front: &str, count: u64) -> Result<(), AllocError>
-    ensures { PrintsLine result out.old out.new (front.now ++ decimal count) }
-{
-    writeln!(out, "{front}{count}")
-}
-
-// The number of a term, between spaces.
-fn print_term(out: &mut String, term: u8) -> Result<(), AllocError>
-    ensures { Prints result out.old out.new (codes " " ++ decimal term ++ codes " ") }
-{
-    out.push_str(" ")?;
-    print_number(out, u64::from(term))?;
-    out.push_str(" ")
-}
-
-fn print_task(out: &mut String, task: &Task) -> Result<(), AllocError>
-    ensures { PrintsLine result out.old out.new (task_text (task_value task.now)) }
-{
-    write!(out, "{task}")?;
-    out.push_str("\n")
-}
-
-// A pass pushes the words between as they are: a formatter takes longer.
-fn print_act(out: &mut String, stamp: Stamp, term: u8, task: &Task) -> Result<(), AllocError>
-    ensures { PrintsLine result out.old out.new (pass_text (Act stamp term (task_value task.now))) }
-{
-    out.push_str("act ")?;
-    print_stamp(out, stamp)?;
-    print_term(out, term)?;
-    print_task(out, task)
-}
-
-fn print_pass(out: &mut String, reply: PassReplyRef<'_>) -> Result<(), AllocError>
-    ensures { PrintsLine result out.old out.new (pass_text (passed_ref reply.entry)) }
+fn pass_answer(reply: PassReplyRef<'_>) -> Answer<'_>
+    ensures { answer_value result ≡ pass_answer (passed_ref reply.entry) }
 {
     match reply {
-        PassReplyRef::Unset => print_alone(out, "unset"),
-        PassReplyRef::NoTerm { stamp } => print_stamped(out, "none ", stamp),
-        PassReplyRef::Act { stamp, term, task } => print_act(out, stamp, term, task),
+        PassReplyRef::Unset => Answer::Unset,
+        PassReplyRef::NoTerm { stamp } => Answer::NoTerm(stamp),
+        PassReplyRef::Act { stamp, term, task } => Answer::Act { stamp, term, task },
     }
 }
 
-/// Prints a reply. A message has the number of those that were made before it.
-pub fn print_reply(out: &mut String, reply: ReplyRef<'_>, messages: usize) -> Result<(), AllocError>
-    ensures { (nodes : ℕ) → PrintsLine result out.old out.new
-        (reply_text messages (answered_from nodes (reply_ref_told reply.entry))) }
+/// The answer that a reply is. A message has the number of those that were made before it.
+pub(crate) fn reply_answer(reply: ReplyRef<'_>, messages: usize) -> Answer<'_>
+    ensures { (nodes : ℕ) → answer_value result
+        ≡ reply_answer messages (answered_from nodes (reply_ref_told reply.entry)) }
 {
     match reply {
-        ReplyRef::Pass(reply) => print_pass(out, reply),
-        ReplyRef::Set(stamp) => print_stamped(out, "set ", stamp),
-        ReplyRef::Remove(stamp) => print_stamped(out, "removed ", stamp),
-        ReplyRef::Load(entries) => print_counted(out, "loaded ", u64::from(entries)),
-        ReplyRef::Shift(total) => print_counted(out, "shifted ", total),
-        ReplyRef::Grant(total) => print_counted(out, "granted ", total),
-        ReplyRef::Emit(_) => print_counted(out, "message ", messages as u64),
-        ReplyRef::Deliver(true) => print_alone(out, "changed"),
-        ReplyRef::Deliver(false) => print_alone(out, "same"),
+        ReplyRef::Pass(reply) => pass_answer(reply),
+        ReplyRef::Set(stamp) => Answer::Set(stamp),
+        ReplyRef::Remove(stamp) => Answer::Removed(stamp),
+        ReplyRef::Load(entries) => Answer::Loaded(entries),
+        ReplyRef::Shift(total) => Answer::Shifted(total),
+        ReplyRef::Grant(total) => Answer::Granted(total),
+        ReplyRef::Emit(_) => Answer::Message(messages),
+        ReplyRef::Deliver(changed) => Answer::Delivered(changed),
     }
 }
 
-/// Why something is refused; out of memory is no reply.
+// Why something is refused; out of memory is no answer.
 fn refusal_of(fault: WorldFault) -> Result<WorldFault, AllocError>
     ensures reply { IfOk result (λ refusal. (refusal ≡ fault) × (fault ≢ Refused OutOfMemory)) }
     ensures any { fault ≢ Refused OutOfMemory → IsOk result }
@@ -122,17 +53,14 @@ fn refusal_of(fault: WorldFault) -> Result<WorldFault, AllocError>
 }
 
 /// Prints why something is refused.
-pub fn print_refusal(out: &mut String, fault: WorldFault) -> Result<(), AllocError>
-    ensures line { PrintsLine result out.old out.new (refused_text fault) }
+pub(crate) fn put_refusal(
+    alloc: Global,
+    fault: WorldFault,
+    out: &mut Printed,
+) -> Result<(), AllocError>
+    ensures answer { OnOk result (out.new ≡ after_put out.old (Some (refused fault))) }
     ensures memory { OnOk result (fault ≢ Refused OutOfMemory) }
 {
     let refusal = refusal_of(fault)?;
-    writeln!(out, "refused {refusal}")
-}
-
-/// Prints what a line that asks for nothing is answered.
-pub fn print_bad_line(out: &mut String) -> Result<(), AllocError>
-    ensures { PrintsLine result out.old out.new bad_line_text }
-{
-    print_alone(out, "bad line")
+    out.put(alloc, Answer::Refused(refusal))
 }

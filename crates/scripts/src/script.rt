@@ -1,20 +1,22 @@
-//! The text that a script prints.
+//! What a script prints.
 
-ghost use Rattle.std.specs.Prelude.{◌≡◌, ◌++◌, Some, None, Ok, IfOk, IfSome, OnOk, option_map, string_bytes};
+ghost use Rattle.std.specs.Prelude.{◌≡◌, ◌++◌, Some, None, Ok, IfOk, IfSome, OnOk, option_map};
 ghost use Rattle.cluster_model.specs.Events.{event_value};
+ghost use Rattle.answers.specs.Printing.{after_put};
 ghost use Rattle.scripts.specs.Commands as commands;
 ghost use Rattle.scripts.specs.Commands.{command_value, nodes};
-ghost use Rattle.scripts.specs.Replies.{Prints, PrintsLine};
 ghost use Rattle.streams.specs.Lines.{text_in};
-ghost use Rattle.scripts.specs.Script.{command_in, event_text, after_event, command_output};
-ghost use Rattle.scripts.specs.Script.{after_command, after_read, line_output, after_line, script_text};
-ghost use Rattle.scripts.specs.Script.{read_output};
-ghost use Rattle.scripts.specs.Script.{echo_of, echoed_output, echoed_text};
+ghost use Rattle.scripts.specs.Script.{command_in, after_event};
+ghost use Rattle.scripts.specs.Script.{after_command, after_read, after_line};
 ghost use Rattle.scripts.specs.Schedules.{Begins, GoesOn, IsNext, LineGoesOn, RunsAsSchedule};
+ghost use Rattle.scripts.specs.Written.{command_answer, event_answer, form_output, form_text};
+ghost use Rattle.scripts.specs.Written.{format_of, line_answer, read_answer};
 
 use crate::command::{Command, read_command};
+use crate::form::Form;
 use crate::question::ask;
-use crate::reply::{print_bad_line, print_refusal, print_reply};
+use crate::reply::{put_refusal, reply_answer};
+use answers::{Answer, Printed};
 use cluster_model::{Event, World};
 use std::alloc::{AllocError, Global};
 use streams::{is_skipped, text_of};
@@ -24,19 +26,21 @@ fn start_world(
     world: &mut Option<World>,
     count: u8,
     trace_cap: u32,
-    out: &mut String,
+    out: &mut Printed,
 ) -> Result<(), AllocError>
     requires { world.old ≡ None }
-    ensures output { Prints result out.old out.new (command_output None (nodes count trace_cap)) }
+    ensures answer { OnOk result (
+        out.new ≡ after_put out.old (command_answer None (nodes count trace_cap))) }
     ensures world { OnOk result (world.new ≡ after_command None (nodes count trace_cap)) }
     ensures history { OnOk result (Begins (nodes count trace_cap)) }
 {
     match World::new(alloc, count, trace_cap) {
         Ok(made) => {
             *world = Some(made);
+            out.put_none();
             Ok(())
         }
-        Err(fault) => print_refusal(out, fault.into()),
+        Err(fault) => put_refusal(alloc, fault.into(), out),
     }
 }
 
@@ -44,20 +48,20 @@ fn run_event(
     alloc: Global,
     world: &mut World,
     event: &Event<'_>,
-    out: &mut String,
+    out: &mut Printed,
 ) -> Result<(), AllocError>
-    ensures output { PrintsLine result out.old out.new
-        (event_text world.old (event_value event.now)) }
+    ensures answer { OnOk result (out.new
+        ≡ after_put out.old (Some (event_answer world.old (event_value event.now)))) }
     ensures world { OnOk result (world.new ≡ after_event world.old (event_value event.now)) }
     ensures history { OnOk result (IsNext world.old (commands.event (event_value event.now))) }
 {
     let messages = world.messages();
     match world.record(alloc, event) {
         Ok(()) => match world.last_reply(event.node()) {
-            Some(reply) => print_reply(out, reply, messages),
+            Some(reply) => out.put(alloc, reply_answer(reply, messages)),
             None => unreachable!(),
         },
-        Err(fault) => print_refusal(out, fault),
+        Err(fault) => put_refusal(alloc, fault, out),
     }
 }
 
@@ -65,16 +69,16 @@ fn run_command_in(
     alloc: Global,
     world: &mut World,
     command: &Command<'_>,
-    out: &mut String,
+    out: &mut Printed,
 ) -> Result<(), AllocError>
-    ensures output { Prints result out.old out.new
-        (command_output (Some world.old) (command_value command.now)) }
+    ensures answer { OnOk result (out.new
+        ≡ after_put out.old (command_answer (Some world.old) (command_value command.now))) }
     ensures world { OnOk result (
         Some world.new ≡ after_command (Some world.old) (command_value command.now)) }
     ensures history { OnOk result (IsNext world.old (command_value command.now)) }
 {
     match command {
-        Command::Nodes { .. } => print_bad_line(out),
+        Command::Nodes { .. } => out.put(alloc, Answer::BadLine),
         Command::Event(event) => run_event(alloc, world, event, out),
         Command::Question { node, question } => ask(alloc, world, *node, *question, out),
     }
@@ -84,10 +88,10 @@ fn run_command(
     alloc: Global,
     world: &mut Option<World>,
     command: &Command<'_>,
-    out: &mut String,
+    out: &mut Printed,
 ) -> Result<(), AllocError>
-    ensures output { Prints result out.old out.new
-        (command_output world.old (command_value command.now)) }
+    ensures answer { OnOk result (out.new
+        ≡ after_put out.old (command_answer world.old (command_value command.now))) }
     ensures world { OnOk result (
         world.new ≡ after_command world.old (command_value command.now)) }
     ensures history { OnOk result (GoesOn world.old (command_value command.now)) }
@@ -98,7 +102,7 @@ fn run_command(
             Command::Nodes { count, trace_cap } => {
                 start_world(alloc, world, *count, *trace_cap, out)
             }
-            Command::Event(_) | Command::Question { .. } => print_bad_line(out),
+            Command::Event(_) | Command::Question { .. } => out.put(alloc, Answer::BadLine),
         },
     }
 }
@@ -121,10 +125,10 @@ pub(crate) fn run_read(
     alloc: Global,
     world: &mut Option<World>,
     command: Option<Command<'_>>,
-    out: &mut String,
+    out: &mut Printed,
 ) -> Result<(), AllocError>
-    ensures output { Prints result out.old out.new
-        (read_output world.old (option_map command_value command.entry)) }
+    ensures answer { OnOk result (out.new
+        ≡ after_put out.old (read_answer world.old (option_map command_value command.entry))) }
     ensures world { OnOk result (
         world.new ≡ after_read world.old (option_map command_value command.entry)) }
     ensures history { OnOk result (
@@ -132,7 +136,7 @@ pub(crate) fn run_read(
 {
     match &command {
         Some(command) => run_command(alloc, world, command, out),
-        None => print_bad_line(out),
+        None => out.put(alloc, Answer::BadLine),
     }
 }
 
@@ -140,72 +144,48 @@ fn run_line(
     alloc: Global,
     world: &mut Option<World>,
     line: &[u8],
-    out: &mut String,
+    out: &mut Printed,
 ) -> Result<(), AllocError>
-    ensures output { Prints result out.old out.new (line_output world.old line.now) }
+    ensures answer { OnOk result (out.new ≡ after_put out.old (line_answer world.old line.now)) }
     ensures world { OnOk result (world.new ≡ after_line world.old line.now) }
     ensures history { OnOk result (LineGoesOn world.old line.now) }
 {
     if is_skipped(line) {
+        out.put_none();
         return Ok(());
     }
     let command = line_command(alloc, line)?;
     run_read(alloc, world, command, out)
 }
 
-/// The text that a script prints.
-pub fn output_of(alloc: Global, script: &[u8]) -> Result<String, AllocError>
-    ensures text { IfOk result (λ text. string_bytes text ≡ script_text script.now) }
-    ensures schedule { OnOk result (RunsAsSchedule script.now) }
-{
-    let mut world = None;
-    let mut out = String::new(alloc);
-    for line in script.split(|byte| *byte == b'\n') {
-        run_line(alloc, &mut world, line, &mut out)?;
-    }
-    Ok(out)
-}
-
-/// Puts a line behind `> `, unless it is skipped.
-pub(crate) fn push_echo(out: &mut Vec<u8>, line: &[u8]) -> Result<(), AllocError>
-    ensures { OnOk result (out.new.items ≡ out.old.items ++ echo_of line.now) }
-{
-    if is_skipped(line) {
-        return Ok(());
-    }
-    out.extend_from_slice(b"> ")?;
-    out.extend_from_slice(line)?;
-    out.push(b'\n')?;
-    Ok(())
-}
-
-// Puts what a line prints, behind the line.
-fn echo_line(
+// Prints what a line is answered, in this form.
+fn print_line(
     alloc: Global,
+    form: Form,
     world: &mut Option<World>,
     line: &[u8],
-    out: &mut Vec<u8>,
+    out: &mut Printed,
 ) -> Result<(), AllocError>
-    ensures output { OnOk result (
-        out.new.items ≡ out.old.items ++ echoed_output world.old line.now) }
+    requires { out.old.format ≡ format_of form }
+    ensures format { OnOk result (out.new.format ≡ out.old.format) }
+    ensures bytes { OnOk result (
+        out.new.bytes ≡ out.old.bytes ++ form_output form world.old line.now) }
     ensures world { OnOk result (world.new ≡ after_line world.old line.now) }
     ensures history { OnOk result (LineGoesOn world.old line.now) }
 {
-    push_echo(out, line)?;
-    let mut text = String::new(alloc);
-    run_line(alloc, world, line, &mut text)?;
-    out.extend_from_slice(text.as_bytes())
+    form.push_echo(line, out)?;
+    run_line(alloc, world, line, out)
 }
 
-/// What a script prints, with each line before its answer. The bytes of a line may be no text.
-pub fn echoed_output_of(alloc: Global, script: &[u8]) -> Result<Vec<u8>, AllocError>
-    ensures text { IfOk result (λ text. text.items ≡ echoed_text script.now) }
+/// What a script prints in a form. The bytes of a line that is echoed may be no text.
+pub fn output_of(alloc: Global, form: Form, script: &[u8]) -> Result<Vec<u8>, AllocError>
+    ensures bytes { IfOk result (λ bytes. bytes.items ≡ form_text form script.now) }
     ensures schedule { OnOk result (RunsAsSchedule script.now) }
 {
     let mut world = None;
-    let mut out = Vec::new(alloc);
+    let mut out = Printed::new(alloc, form.format());
     for line in script.split(|byte| *byte == b'\n') {
-        echo_line(alloc, &mut world, line, &mut out)?;
+        print_line(alloc, form, &mut world, line, &mut out)?;
     }
-    Ok(out)
+    Ok(out.into_bytes())
 }

@@ -1,28 +1,49 @@
 //! A script that isn't checked: what its lines print, and what is said of those that go wrong.
 
-ghost use Rattle.std.specs.Prelude.{◌≡◌, ◌+◌, ◌++◌, ◌<◌, ◌≤◌, [], false, codes, is_some, length};
-ghost use Rattle.std.specs.Prelude.{option_map, string_bytes, if◌then◌else◌, IfOk, IfSome, OnOk};
-ghost use Rattle.std.specs.Str.{bytes_eq};
-ghost use Rattle.streams.specs.Fields.{output_line};
+ghost use Rattle.std.specs.Prelude.{◌≡◌, ◌+◌, ◌++◌, ◌∷◌, ◌<◌, ◌≤◌, [], decimal, false, is_some};
+ghost use Rattle.std.specs.Prelude.{length};
+ghost use Rattle.std.specs.Prelude.{option_map, IfOk, IfSome, OnOk};
 ghost use Rattle.streams.specs.Lines.{is_skipped};
+ghost use Rattle.answers.specs.Answers.{kind_in};
+ghost use Rattle.answers.specs.Printing.{after_put};
 ghost use Rattle.scripts.specs.Commands.{command_value};
 ghost use Rattle.scripts.specs.Schedules.{GoesOn, LineGoesOn, RunsAsSchedule};
-ghost use Rattle.scripts.specs.Script.{after_line, after_read, command_in, echoed_text};
-ghost use Rattle.scripts.specs.Script.{line_output, read_output, script_text};
+ghost use Rattle.scripts.specs.Script.{after_line, after_read, command_in};
 ghost use Rattle.scripts.specs.Warned.{warned_of};
-ghost use Rattle.scripts.specs.Warnings.{after_warned, bad_in, bad_sum, count_one, line_warned};
-ghost use Rattle.scripts.specs.Warnings.{told_output, unset_sum, unwarned, warned_sums, warned_text};
+ghost use Rattle.scripts.specs.Warnings.{after_warned, bad_in, bad_sum, count_one, is_unset, line_warned};
+ghost use Rattle.scripts.specs.Warnings.{unset_sum, unwarned, warned_lines, warned_sums};
+ghost use Rattle.scripts.specs.Written.{form_output, form_text, format_of, line_answer, read_answer};
 
 use crate::check::Checked;
 use crate::command::Command;
 use crate::faults::{say_bad, why_bad};
-use crate::script::{line_command, push_echo, run_read};
+use crate::form::Form;
+use crate::script::{line_command, run_read};
+use answers::{Kind, Printed};
 use cluster_model::World;
 use std::alloc::{AllocError, Global};
 use streams::{MOST_BYTES, is_skipped};
+use warnings::Warnings;
 
 /// The most bad lines that are named.
 const MOST_NAMED: u32 = 20;
+
+fn is_unset(kind: Kind) -> bool
+    ensures { result ≡ is_unset kind }
+{
+    match kind {
+        Kind::Unset => true,
+        Kind::Refused | Kind::Other => false,
+    }
+}
+
+// A line that begins so and ends with a number.
+fn say_count(alloc: Global, front: &str, count: u32, said: &mut Warnings) -> Result<(), AllocError>
+    ensures { OnOk result (said.new ≡ said.old ++ (front.now ++ decimal count) ∷ []) }
+{
+    let line = format!(in alloc; "{front}{count}")?;
+    said.push_text(line)
+}
 
 /// A script that is read line by line, and what was said of its lines so far.
 #[derive(Drop)]
@@ -32,22 +53,19 @@ struct Warning {
     // How many lines were bad, and how many passes met a point that isn't set.
     bad: u32,
     unset: u32,
-    said: Vec<u8>,
-    // What the last line printed; it is kept for its memory.
-    answer: String,
+    said: Warnings,
 }
 
 impl Warning {
     fn new(alloc: Global) -> Warning
         ensures state { warned_of result ≡ unwarned }
-        ensures said { result.said.items ≡ [] }
+        ensures said { result.said ≡ [] }
     {
         Warning {
             number: 1,
             bad: 0,
             unset: 0,
-            said: Vec::new(alloc),
-            answer: String::new(alloc),
+            said: Warnings::new(alloc),
         }
     }
 
@@ -66,8 +84,8 @@ impl Warning {
         ensures bad { OnOk result (self.new.bad
             ≡ self.old.bad + count_one (is_some (bad_in world.now line.now))) }
         ensures unset { OnOk result (self.new.unset ≡ self.old.unset) }
-        ensures said { OnOk result (self.new.said.items
-            ≡ self.old.said.items ++ line_warned world.now (warned_of self.old) line.now) }
+        ensures said { OnOk result (self.new.said
+            ≡ self.old.said ++ line_warned world.now (warned_of self.old) line.now) }
     {
         let why = why_bad(world, line, command);
         if self.bad < MOST_NAMED {
@@ -83,25 +101,24 @@ impl Warning {
         alloc: Global,
         world: &mut Option<World>,
         command: Option<Command<'_>>,
+        printed: &mut Printed,
     ) -> Result<(), AllocError>
         requires unset { self.old.unset < 4294967295 }
         requires number { self.old.number < 4294967295 }
-        ensures answer { OnOk result (string_bytes self.new.answer
-            ≡ read_output world.old (option_map command_value command.entry)) }
+        ensures printed { OnOk result (printed.new ≡ after_put printed.old
+            (read_answer world.old (option_map command_value command.entry))) }
         ensures number { OnOk result (self.new.number ≡ self.old.number + 1) }
         ensures bad { OnOk result (self.new.bad ≡ self.old.bad) }
-        ensures unset { OnOk result (self.new.unset ≡ self.old.unset + count_one (bytes_eq
-            (read_output world.old (option_map command_value command.entry))
-            (output_line (codes "unset")))) }
-        ensures said { OnOk result (self.new.said.items ≡ self.old.said.items) }
+        ensures unset { OnOk result (self.new.unset ≡ self.old.unset + count_one (is_unset
+            (kind_in (read_answer world.old (option_map command_value command.entry))))) }
+        ensures said { OnOk result (self.new.said ≡ self.old.said) }
         ensures world { OnOk result (
             world.new ≡ after_read world.old (option_map command_value command.entry)) }
         ensures history { OnOk result (
             IfSome (option_map command_value command.entry) (GoesOn world.old)) }
     {
-        self.answer.clear();
-        run_read(alloc, world, command, &mut self.answer)?;
-        self.unset += u32::from(self.answer.as_bytes() == b"unset\n".as_slice());
+        run_read(alloc, world, command, printed)?;
+        self.unset += u32::from(is_unset(printed.kind()));
         self.number += 1;
         Ok(())
     }
@@ -109,33 +126,30 @@ impl Warning {
     // Says how many lines were bad, where not all were named.
     fn sum_bad(&mut self, alloc: Global) -> Result<(), AllocError>
         ensures state { OnOk result (warned_of self.new ≡ warned_of self.old) }
-        ensures said { OnOk result (self.new.said.items
-            ≡ self.old.said.items ++ bad_sum self.old.bad) }
+        ensures said { OnOk result (self.new.said
+            ≡ self.old.said ++ bad_sum self.old.bad) }
     {
         if self.bad <= MOST_NAMED {
             return Ok(());
         }
-        let bad = self.bad;
-        let sum = format!(in alloc; "bad lines: {bad}\n")?;
-        self.said.extend_from_slice(sum.as_bytes())
+        say_count(alloc, "bad lines: ", self.bad, &mut self.said)
     }
 
     // Says how many passes met a point that isn't set, if one did.
     fn sum_unset(&mut self, alloc: Global) -> Result<(), AllocError>
-        ensures { OnOk result (self.new.said.items
-            ≡ self.old.said.items ++ unset_sum self.old.unset) }
+        ensures { OnOk result (self.new.said
+            ≡ self.old.said ++ unset_sum self.old.unset) }
     {
         if self.unset == 0 {
             return Ok(());
         }
-        let unset = self.unset;
-        let sum = format!(in alloc; "evaluations of points that aren't set: {unset}\n")?;
-        self.said.extend_from_slice(sum.as_bytes())
+        let front = "evaluations of points that aren't set: ";
+        say_count(alloc, front, self.unset, &mut self.said)
     }
 
     fn sum_up(&mut self, alloc: Global) -> Result<(), AllocError>
-        ensures { OnOk result (self.new.said.items
-            ≡ self.old.said.items ++ warned_sums (warned_of self.old)) }
+        ensures { OnOk result (self.new.said
+            ≡ self.old.said ++ warned_sums (warned_of self.old)) }
     {
         self.sum_bad(alloc)?;
         self.sum_unset(alloc)
@@ -148,15 +162,15 @@ fn warn_line(
     world: &mut Option<World>,
     warning: &mut Warning,
     line: &[u8],
-    printed: &mut Vec<u8>,
+    printed: &mut Printed,
 ) -> Result<(), AllocError>
     requires number { warning.old.number < 4294967295 }
     requires bad { warning.old.bad < warning.old.number }
     requires unset { warning.old.unset < warning.old.number }
     ensures printed { OnOk result (
-        printed.new.items ≡ printed.old.items ++ line_output world.old line.now) }
-    ensures said { OnOk result (warning.new.said.items
-        ≡ warning.old.said.items ++ line_warned world.old (warned_of warning.old) line.now) }
+        printed.new ≡ after_put printed.old (line_answer world.old line.now)) }
+    ensures said { OnOk result (warning.new.said
+        ≡ warning.old.said ++ line_warned world.old (warned_of warning.old) line.now) }
     ensures state { OnOk result (warned_of warning.new
         ≡ after_warned world.old (warned_of warning.old) line.now) }
     ensures world { OnOk result (world.new ≡ after_line world.old line.now) }
@@ -164,63 +178,62 @@ fn warn_line(
 {
     if is_skipped(line) {
         warning.number += 1;
+        printed.put_none();
         return Ok(());
     }
     let command = line_command(alloc, line)?;
     warning.name_bad(alloc, world, line, &command)?;
-    warning.answer(alloc, world, command)?;
-    printed.extend_from_slice(warning.answer.as_bytes())
+    warning.answer(alloc, world, command, printed)
 }
 
-// The same, with the line before what it prints where that is asked for.
-fn warn_echoing(
+// Any line, printed in this form.
+fn warn_printing(
     alloc: Global,
-    echo: bool,
+    form: Form,
     world: &mut Option<World>,
     warning: &mut Warning,
     line: &[u8],
-    printed: &mut Vec<u8>,
+    printed: &mut Printed,
 ) -> Result<(), AllocError>
     requires number { warning.old.number < 4294967295 }
     requires bad { warning.old.bad < warning.old.number }
     requires unset { warning.old.unset < warning.old.number }
+    requires format { printed.old.format ≡ format_of form }
+    ensures format { OnOk result (printed.new.format ≡ printed.old.format) }
     ensures printed { OnOk result (
-        printed.new.items ≡ printed.old.items ++ told_output echo world.old line.now) }
-    ensures said { OnOk result (warning.new.said.items
-        ≡ warning.old.said.items ++ line_warned world.old (warned_of warning.old) line.now) }
+        printed.new.bytes ≡ printed.old.bytes ++ form_output form world.old line.now) }
+    ensures said { OnOk result (warning.new.said
+        ≡ warning.old.said ++ line_warned world.old (warned_of warning.old) line.now) }
     ensures state { OnOk result (warned_of warning.new
         ≡ after_warned world.old (warned_of warning.old) line.now) }
     ensures world { OnOk result (world.new ≡ after_line world.old line.now) }
     ensures history { OnOk result (LineGoesOn world.old line.now) }
 {
-    if echo {
-        push_echo(printed, line)?;
-    }
+    form.push_echo(line, printed)?;
     warn_line(alloc, world, warning, line, printed)
 }
 
-/// What a script prints, perhaps with each line before it, and what is said of its bad lines and of
-/// passes that met a point that isn't set.
+/// What a script prints in a form, and what is said of its bad lines and of passes that met a point that
+/// isn't set.
 pub(crate) fn warned_output_of(
     alloc: Global,
+    form: Form,
     script: &[u8],
-    echo: bool,
 ) -> Result<Checked, AllocError>
     requires { length script.now ≤ MOST_BYTES }
-    ensures printed { IfOk result (λ c. c.printed.items
-        ≡ (if echo then echoed_text script.now else script_text script.now)) }
-    ensures said { IfOk result (λ c. c.said.items ≡ warned_text script.now) }
+    ensures printed { IfOk result (λ c. c.printed.items ≡ form_text form script.now) }
+    ensures said { IfOk result (λ c. c.said ≡ warned_lines script.now) }
     ensures schedule { OnOk result (RunsAsSchedule script.now) }
 {
     let mut world = None;
     let mut warning = Warning::new(alloc);
-    let mut printed = Vec::new(alloc);
+    let mut printed = Printed::new(alloc, form.format());
     for line in script.split(|byte| *byte == b'\n') {
-        warn_echoing(alloc, echo, &mut world, &mut warning, line, &mut printed)?;
+        warn_printing(alloc, form, &mut world, &mut warning, line, &mut printed)?;
     }
     warning.sum_up(alloc)?;
     Ok(Checked {
-        printed,
+        printed: printed.into_bytes(),
         said: warning.said,
     })
 }

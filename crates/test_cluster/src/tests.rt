@@ -9,6 +9,7 @@ mod audits;
 mod batches;
 mod callers;
 mod calls;
+mod digests;
 mod draws;
 mod entries;
 mod events;

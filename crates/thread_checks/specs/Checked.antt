@@ -1,14 +1,14 @@
 -- The plan that is played of a script of threads that is checked, and what is said of the lines that fail.
 use Rattle.std.specs.Prelude.{◌≡◌, ℕ, ◌+◌, ◌^◌, Bool, List, [], ◌++◌, nat_lt, slice_get, if◌then◌else◌, codes, IfOk, Option, Some, None}
-use Rattle.scripts.specs.Checks.{checked_text}
+use Rattle.scripts.specs.Checks.{checked_lines}
 use Rattle.thread_plans.specs.declared.plan.RoundKind.{RoundKind}
 use Rattle.thread_plans.specs.declared.plan.RoundKind.TheVariants as kinds
 use Rattle.thread_plans.specs.declared.plan.Rounds.{Rounds}
 use Rattle.thread_plans.specs.Plans.{PlanValue, plan_in}
 use Rattle.thread_warnings.specs.Runs.{Lists, RunFaults}
-use Rattle.thread_warnings.specs.Warnings.{warned_text}
+use Rattle.thread_warnings.specs.Warnings.{warned_lines}
 use Rattle.thread_checks.specs.declared.views.View.TheVariants as views
-use Rattle.thread_checks.specs.Scans.{scan_text}
+use Rattle.thread_checks.specs.Scans.{scan_lines}
 use Rattle.thread_checks.specs.Views.{all_rounds, view_of}
 
 -- so many rounds and so many more, as far as a node does so many
@@ -50,15 +50,15 @@ abbrev pub plan_with : List ℕ → PlanValue → PlanValue
 plan_with script plan =
     with_rounds plan (rounds_asked (codes "first") script) (kind_by (rounds_asked (codes "share") script))
 
--- What is said of the lines that fail, where calls were refused so and waits in these lines were in vain, by
--- what was printed and whether the audit says yes: of those before the workers as of a script of calls that is checked;
--- of the workers what a run is warned of; and of waits, of lines that expect what is printed, and of places. Nothing,
--- where none fails.
-abbrev pub failed_text : List ℕ → PlanValue → Lists → RunFaults → List ℕ → List ℕ → Bool → List ℕ
-failed_text script plan lists faults vain printed explained =
-    checked_text (view_of views.Starts script)
-    ++ (warned_text (view_of views.Workers script) (without_starts plan) lists faults explained
-    ++ scan_text script vain printed)
+-- What is said of the lines that fail, where calls were refused so and waits in these lines were in vain, by the lines
+-- that were answered and whether the audit says yes: of those before the workers as of a script of calls that is
+-- checked; of the workers what a run is warned of; and of waits, of lines that expect what is printed, and of places. A
+-- line each: nothing, where none fails.
+abbrev pub failed_lines : List ℕ → PlanValue → Lists → RunFaults → List ℕ → List ℕ → Bool → List (List ℕ)
+failed_lines script plan lists faults vain answered explained =
+    checked_lines (view_of views.Starts script)
+    ++ (warned_lines (view_of views.Workers script) (without_starts plan) lists faults explained
+    ++ scan_lines script vain answered)
 
 -- a script's plan has so many nodes, of which each accepts so many calls
 abbrev pub IsSizeOf : List ℕ → ℕ → ℕ → Type 0

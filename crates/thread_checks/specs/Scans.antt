@@ -60,17 +60,18 @@ has_line text (line ∷ lines) = bytes_eq line text || has_line text lines
 abbrev pub is_printed : List ℕ → List ℕ → Bool
 is_printed printed text = nat_lt 0 (length text) && has_line text (lines_of printed)
 
-abbrev pub unprinted : ℕ → List ℕ → List ℕ → List ℕ
+abbrev pub unprinted : ℕ → List ℕ → List ℕ → List (List ℕ)
 unprinted number printed text =
     if is_printed printed text then []
     else said_of number (codes "expected " ++ shown text ++ codes ", which isn't printed")
 
 -- behind the first worker a line expects what is printed; before it, the answer of a start line
-abbrev pub expect_said : List ℕ → Scan → List ℕ → List ℕ
+abbrev pub expect_said : List ℕ → Scan → List ℕ → List (List ℕ)
 expect_said printed s line = if s.worked && is_expect line then unprinted s.number printed (drop 7 line) else []
 
-abbrev pub scan_said : List ℕ → List ℕ → Scan → List ℕ → List ℕ
+abbrev pub scan_said : List ℕ → List ℕ → Scan → List ℕ → List (List ℕ)
 scan_said vain printed s line = missing_said s.number (why_wrong vain s line) ++ expect_said printed s line
 
-unfoldable pub scan_text : List ℕ → List ℕ → List ℕ → List ℕ
-scan_text script vain printed = by_lines (scan_said vain printed) after_scanned unscanned (lines_of script)
+-- of a script, a line each
+unfoldable pub scan_lines : List ℕ → List ℕ → List ℕ → List (List ℕ)
+scan_lines script vain printed = by_lines (scan_said vain printed) after_scanned unscanned (lines_of script)

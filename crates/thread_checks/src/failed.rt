@@ -2,16 +2,17 @@
 
 ghost use Rattle.std.specs.Prelude.{◌≡◌, ◌≤◌, length, IfOk};
 ghost use Rattle.thread_plans.specs.Plans.{plan_value};
-ghost use Rattle.thread_checks.specs.Checked.{failed_text, without_starts};
+ghost use Rattle.thread_checks.specs.Checked.{failed_lines, without_starts};
 
-use crate::scan::scan_text;
+use crate::scan::scan_lines;
 use crate::views::{View, view_of};
 use node_calls::{NodeFault, Receipt};
-use scripts::checked_text_of;
+use scripts::checked_warnings_of;
 use std::alloc::{AllocError, Global};
 use streams::MOST_BYTES;
 use thread_plans::ThreadPlan;
-use thread_warnings::warned_text;
+use thread_warnings::run_warnings;
+use warnings::Warnings;
 
 fn without_starts<'a>(alloc: Global, plan: ThreadPlan<'a>) -> ThreadPlan<'a>
     ensures { plan_value result ≡ without_starts (plan_value plan.entry) }
@@ -34,7 +35,8 @@ fn without_starts<'a>(alloc: Global, plan: ThreadPlan<'a>) -> ThreadPlan<'a>
 
 /// What is said of the lines of a script that fail, where the plan that is played of it gave these lists of
 /// receipts and refused calls so, before the workers and of workers, waits in the lines of these numbers
-/// were in vain, this was printed and the audit says yes or no. Nothing, where none fails.
+/// were in vain, these lines were answered and the audit says yes or no. Nothing, where none fails.
+/// Lines that expect what is printed are compared with lines, also where JSON objects are printed.
 ///
 /// The lines before the workers are answered as those of a script of calls that is checked.
 pub fn failures_of(
@@ -45,20 +47,18 @@ pub fn failures_of(
     start_faults: &[(usize, NodeFault)],
     faults: &[NodeFault],
     vain: &[u32],
-    printed: &[u8],
+    answered: &[u8],
     yes: bool,
-) -> Result<Vec<u8>, AllocError>
+) -> Result<Warnings, AllocError>
     requires { length script.now ≤ MOST_BYTES }
-    ensures { IfOk result (λ said. said.items ≡ failed_text script.now (plan_value plan.entry)
-        lists.now (start_faults.now, faults.now) vain.now printed.now yes) }
+    ensures { IfOk result (λ said. said ≡ failed_lines script.now (plan_value plan.entry)
+        lists.now (start_faults.now, faults.now) vain.now answered.now yes) }
 {
     let starts = view_of(alloc, View::Starts, script)?;
-    let mut said = checked_text_of(alloc, &starts)?;
+    let mut said = checked_warnings_of(alloc, &starts)?;
     let workers = view_of(alloc, View::Workers, script)?;
     let plan = without_starts(alloc, plan);
-    let warned = warned_text(alloc, &workers, &plan, lists, start_faults, faults, yes)?;
-    said.extend_from_slice(&warned)?;
-    let scanned = scan_text(alloc, script, vain, printed)?;
-    said.extend_from_slice(&scanned)?;
+    said.append(run_warnings(alloc, &workers, &plan, lists, start_faults, faults, yes)?)?;
+    said.append(scan_lines(alloc, script, vain, answered)?)?;
     Ok(said)
 }

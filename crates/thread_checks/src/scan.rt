@@ -7,13 +7,14 @@ ghost use Rattle.scripts.specs.Faults.{missing_said};
 ghost use Rattle.streams.specs.Fields.{lines_of};
 ghost use Rattle.thread_checks.specs.Scanned.{scan_value};
 ghost use Rattle.thread_checks.specs.Scans.{after_scanned, expect_said, has_line, is_printed, scan_said};
-ghost use Rattle.thread_checks.specs.Scans.{scan_text, unprinted, why_await, why_late, why_wrong};
+ghost use Rattle.thread_checks.specs.Scans.{scan_lines, unprinted, why_await, why_late, why_wrong};
 
 use crate::lines::{await_in, first_in, is_await, is_expect, is_spread, is_start_call};
 use crate::views::worked_after;
 use scripts::say_of;
 use std::alloc::{AllocError, Global};
 use streams::MOST_BYTES;
+use warnings::Warnings;
 
 /// What was met before a line.
 #[derive(Clone, Copy)]
@@ -68,8 +69,8 @@ fn why_wrong(vain: &[u32], scan: Scan, line: &[u8]) -> Why
     }
 }
 
-fn say_wrong(alloc: Global, number: u32, why: Why, said: &mut Vec<u8>) -> Result<(), AllocError>
-    ensures { OnOk result (said.new.items ≡ said.old.items
+fn say_wrong(alloc: Global, number: u32, why: Why, said: &mut Warnings) -> Result<(), AllocError>
+    ensures { OnOk result (said.new ≡ said.old
         ++ missing_said number (option_map (λ why. why.now) why.entry)) }
 {
     match why {
@@ -113,10 +114,10 @@ fn say_unprinted(
     number: u32,
     printed: &[u8],
     text: &[u8],
-    said: &mut Vec<u8>,
+    said: &mut Warnings,
 ) -> Result<(), AllocError>
-    ensures { OnOk result (said.new.items
-        ≡ said.old.items ++ unprinted number printed.now text.now) }
+    ensures { OnOk result (said.new
+        ≡ said.old ++ unprinted number printed.now text.now) }
 {
     if is_printed(printed, text) {
         return Ok(());
@@ -139,10 +140,10 @@ fn say_expect(
     printed: &[u8],
     scan: Scan,
     line: &[u8],
-    said: &mut Vec<u8>,
+    said: &mut Warnings,
 ) -> Result<(), AllocError>
-    ensures { OnOk result (said.new.items
-        ≡ said.old.items ++ expect_said printed.now (scan_value scan) line.now) }
+    ensures { OnOk result (said.new
+        ≡ said.old ++ expect_said printed.now (scan_value scan) line.now) }
 {
     if scan.worked && is_expect(line) {
         say_unprinted(alloc, scan.number, printed, expected(line), said)
@@ -157,10 +158,10 @@ fn say_line(
     printed: &[u8],
     scan: Scan,
     line: &[u8],
-    said: &mut Vec<u8>,
+    said: &mut Warnings,
 ) -> Result<(), AllocError>
-    ensures { OnOk result (said.new.items
-        ≡ said.old.items ++ scan_said vain.now printed.now (scan_value scan) line.now) }
+    ensures { OnOk result (said.new
+        ≡ said.old ++ scan_said vain.now printed.now (scan_value scan) line.now) }
 {
     say_wrong(alloc, scan.number, why_wrong(vain, scan, line), said)?;
     say_expect(alloc, printed, scan, line, said)
@@ -182,14 +183,14 @@ impl Scan {
 
 /// What is said of the lines of a script that only one that is checked has, where waits in these lines
 /// were in vain and this was printed; and of lines that stand in a wrong place.
-pub(crate) fn scan_text(
+pub(crate) fn scan_lines(
     alloc: Global,
     script: &[u8],
     vain: &[u32],
     printed: &[u8],
-) -> Result<Vec<u8>, AllocError>
+) -> Result<Warnings, AllocError>
     requires { length script.now ≤ MOST_BYTES }
-    ensures { IfOk result (λ said. said.items ≡ scan_text script.now vain.now printed.now) }
+    ensures { IfOk result (λ said. said ≡ scan_lines script.now vain.now printed.now) }
 {
     let mut scan = Scan {
         number: 1,
@@ -197,7 +198,7 @@ pub(crate) fn scan_text(
         spread: false,
         rounds: false,
     };
-    let mut said = Vec::new(alloc);
+    let mut said = Warnings::new(alloc);
     for line in script.split(|byte| *byte == b'\n') {
         say_line(alloc, vain, printed, scan, line, &mut said)?;
         scan = scan.after(line);

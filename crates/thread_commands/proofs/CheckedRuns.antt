@@ -1,100 +1,114 @@
 -- What a run of a script of threads that is checked comes to and says, by how the program ends.
-use Rattle.std.proofs.Common.{◌≡◌, ◌<◌, ℕ, length, true, false, List, [], Option, Some, None, Result, Ok, Err, refl, sym, subst, ◌∙◌, inl, inr}
-use Rattle.std.specs.Prelude.{◌≢◌, ◌↔◌, ◌⊎◌, IfErr, IfOk, IfSome, IsErr, IsOk, OnOk, Vec}
-use Rattle.std.specs.declared.alloc.Global.{Global}
+use Rattle.std.proofs.Common.{◌≡◌, ◌∙◌, ◌==◌, ℕ, Bool, length, true, false, List, [], ◌∷◌, Option, Some, None, Result, Ok, Err, refl, sym, subst, inl, inr, arith}
+use Rattle.std.specs.Prelude.{◌≢◌, ◌⊎◌, is_ok, not, IfErr, IfOk, IfSome}
+use Rattle.std.proofs.lemmas.Bool.Decides.{eqb_tells}
 use Rattle.std.specs.Process.{exit_status}
 use Rattle.std.specs.declared.process.ExitCode.{ExitCode}
-use Rattle.audit.specs.Receipts.{Lists}
-use Rattle.audit.specs.Traces.{Traces}
+use Rattle.answers.specs.declared.printed.Format.{Format}
 use Rattle.streams.specs.declared.fault.ScriptFault.{ScriptFault}
 use Rattle.streams.specs.declared.fault.ScriptFault.TheVariants as faults
-use Rattle.thread_plans.specs.BadLines.{bad_text}
-use Rattle.thread_warnings.specs.Runs.{RunFaults}
+use Rattle.thread_plans.specs.BadLines.{bad_lines}
 use Rattle.thread_checks.specs.Checked.{plain_text}
-use Rattle.thread_commands.specs.Checked.{ChecksSaying, FailsSaying, IsChecked}
-use Rattle.commands.specs.Statuses.{OnStatus}
-use Rattle.thread_warnings.proofs.Inputs.{items_of}
+use Rattle.commands.specs.Statuses.{HasStatus, OnStatus}
+use Rattle.thread_commands.specs.Checked.{ChecksSaying, ChecksTo, FailsSaying}
+use Rattle.thread_commands.specs.Said.{Ends, Run, is_wrong, status_of}
+use Rattle.thread_commands.proofs.Ended.{EndsOr}
 
--- what it prints was written, and what fails in it is said
-pub checked_on_ok : {T E : Type 0} (written told : List ℕ → Type 0) (script : List ℕ) (traces : Traces) (lists : Lists)
-    (refused : RunFaults) (text said : List ℕ) (result : Result T E)
-    → IsChecked script traces lists refused text said → OnOk result (written text) → OnOk result (told said)
-    → OnOk result (ChecksSaying script written told)
-checked_on_ok written told script traces lists refused text said (Err fault) is h s = tt
-checked_on_ok written told script traces lists refused text said (Ok done) is h s =
-    (traces, lists, refused, text, said, is, h, s)
+-- a run that is refused otherwise than for a bad line isn't wrong, since nothing is said of it
+pub right_at : (run : Run) (said was : List (List ℕ)) → was ≡ [] →
+    IfErr run (λ f. ((line : ℕ) → f ≢ faults.BadLine line) → said ≡ was) → (fault : ScriptFault) →
+    ((line : ℕ) → fault ≢ faults.BadLine line) → run ≡ Err fault → is_wrong true said ≡ false
+right_at run said was none unsaid fault other is =
+    let same = subst (λ (r : Run). IfErr r (λ f. ((line : ℕ) → f ≢ faults.BadLine line) → said ≡ was)) is unsaid other in
+    subst (λ lines. is_wrong true lines ≡ false) (sym (same ∙ none)) refl
 
--- nothing was said
-silent : (input : Option (List ℕ)) (written : List ℕ → Type 0) (said : List ℕ) → said ≡ [] →
-    IfSome input (λ bytes. ChecksSaying bytes written (λ failed. said ≡ failed)) →
-    IfSome input (λ bytes. ChecksSaying bytes written (λ failed. failed ≡ []))
-silent None written said none h = tt
-silent (Some bytes) written said none h = (h.0, h.1, h.2, h.3, h.4, h.5, h.6, sym h.7 ∙ none)
-
-pub silent_where_good : {T E F : Type 0} (result : Result ExitCode E) (run : Result T F) (written : List ℕ → Type 0)
-    (said : List ℕ) (input : Option (List ℕ)) → OnStatus result 0 (IsOk run × (said ≡ [])) →
-    OnOk run (IfSome input (λ bytes. ChecksSaying bytes written (λ failed. said ≡ failed))) →
-    OnStatus result 0 (IfSome input (λ bytes. ChecksSaying bytes written (λ failed. failed ≡ [])))
-silent_where_good (Err e) run written said input good h = tt
-silent_where_good (Ok code) (Ok x) written said input good h = λ z. silent input written said ((good z).1) h
-silent_where_good (Ok code) (Err e) written said input good h =
-    λ z. (let done : false ≡ true = (good z).0 in absurd cc)
-
--- something was said
-pub fails : {T : Type 0} (run : Result T ScriptFault) (written warnings : List ℕ → Type 0) (said was : Vec ℕ Global)
-    (input : Option (List ℕ)) → was.items ≡ [] →
-    OnOk run (IfSome input (λ bytes. ChecksSaying bytes written (λ failed. said.items ≡ failed))) →
-    ((line : ℕ) → run ≡ Err (faults.BadLine line) → IfSome input (λ bytes. said.items ≡ bad_text (plain_text bytes))) →
-    IfErr run (λ fault. ((line : ℕ) → fault ≢ faults.BadLine line) → said ≡ was) → said.items ≢ [] →
-    warnings said.items → IfSome input (λ bytes. FailsSaying bytes written warnings)
-fails run written warnings said was None none h bad other some s = tt
-fails (Ok done) written warnings said was (Some bytes) none h bad other some s = (said.items, some, s, inl h)
-fails (Err (faults.BadLine line)) written warnings said was (Some bytes) none h bad other some s =
-    (said.items, some, s, inr (bad line refl))
-fails (Err faults.TooLong) written warnings said was (Some bytes) none h bad other some s =
-    absurd (some (items_of said was (other (λ line e. cc)) none))
-fails (Err faults.ReadFailed) written warnings said was (Some bytes) none h bad other some s =
-    absurd (some (items_of said was (other (λ line e. cc)) none))
-fails (Err faults.WriteFailed) written warnings said was (Some bytes) none h bad other some s =
-    absurd (some (items_of said was (other (λ line e. cc)) none))
-fails (Err faults.OutOfMemory) written warnings said was (Some bytes) none h bad other some s =
-    absurd (some (items_of said was (other (λ line e. cc)) none))
-
-pub on_failed : {E : Type 0} (result : Result ExitCode E) (some said fact : Type 0) →
-    IfOk result (λ code. (exit_status code ≡ 3) ↔ some) → IfOk result (λ code. said) → (some → said → fact) →
-    OnStatus result 3 fact
-on_failed (Err e) some said fact h s k = tt
-on_failed (Ok code) some said fact h s k = λ z. k (h.0 z) s
-
--- a run that was refused otherwise than for a bad line ends with 1, since nothing was said
-pub refused_unsaid : {T E : Type 0} (result : Result ExitCode E) (run : Result T ScriptFault) (fault : ScriptFault)
-    (said was : Vec ℕ Global) → ((line : ℕ) → fault ≢ faults.BadLine line) → was.items ≡ [] →
-    IfErr run (λ f. ((line : ℕ) → f ≢ faults.BadLine line) → said ≡ was) →
-    (said.items ≡ [] → IfOk result (λ code. (exit_status code ≡ 1) ↔ IsErr run)) → run ≡ Err fault →
-    IfOk result (λ code. exit_status code ≡ 1)
-refused_unsaid (Err e) run fault said was other none unsaid refused is = tt
-refused_unsaid (Ok code) run fault said was other none unsaid refused is =
-    let same = subst (λ r. IfErr r (λ f. ((line : ℕ) → f ≢ faults.BadLine line) → said ≡ was)) is unsaid other in
-    let ends = subst (λ r. said.items ≡ [] → (exit_status code ≡ 1) ↔ IsErr r) is refused in
-    (ends (items_of said was same none)).1 refl
-
--- so does one of a script that is too long
-pub too_long : {T E : Type 0} (result : Result ExitCode E) (run : Result T ScriptFault) (failed : Type 0)
-    (said was : Vec ℕ Global) (input : Option (List ℕ)) (most : ℕ) → was.items ≡ [] →
-    IfErr run (λ f. ((line : ℕ) → f ≢ faults.BadLine line) → said ≡ was) →
-    (said.items ≡ [] → IfOk result (λ code. (exit_status code ≡ 1) ↔ IsErr run)) →
-    (run ≡ Err faults.ReadFailed) ↔ failed →
-    IfSome input (λ bytes. most < length bytes →
-    (run ≡ Err faults.TooLong) ⊎ failed ⊎ (run ≡ Err faults.OutOfMemory)) →
-    IfSome input (λ bytes. most < length bytes → IfOk result (λ code. exit_status code ≡ 1))
-too_long result run failed said was None most none unsaid refused reads h = tt
-too_long result run failed said was (Some bytes) most none unsaid refused reads h = λ long. by_fault (h long)
+pub zero_one_or_three : {E : Type 0} (result : Result ExitCode E) (failed wrong : Bool) (run : Run)
+    (said : List (List ℕ)) (fact : List ℕ → List (List ℕ) → Type 0) → EndsOr result wrong run said fact failed →
+    IfOk result (λ code. (exit_status code ≡ 0) ⊎ (exit_status code ≡ 1) ⊎ (exit_status code ≡ 3))
+zero_one_or_three (Err e) failed wrong run said fact ends = tt
+zero_one_or_three (Ok code) true wrong run said fact ends = inr (inl (ends.1 refl))
+zero_one_or_three (Ok code) false wrong run said fact ends = at wrong run (ends.0 refl)
   where
-    by_fault : (run ≡ Err faults.TooLong) ⊎ failed ⊎ (run ≡ Err faults.OutOfMemory) →
-        IfOk result (λ code. exit_status code ≡ 1)
-    by_fault (inl is) =
-        refused_unsaid result run faults.TooLong said was (λ line e. cc) none unsaid refused is
-    by_fault (inr (inl met)) =
-        refused_unsaid result run faults.ReadFailed said was (λ line e. cc) none unsaid refused (reads.1 met)
-    by_fault (inr (inr is)) =
-        refused_unsaid result run faults.OutOfMemory said was (λ line e. cc) none unsaid refused is
+    at : (w : Bool) (r : Run) → Ends w r said (exit_status code) fact →
+        (exit_status code ≡ 0) ⊎ (exit_status code ≡ 1) ⊎ (exit_status code ≡ 3)
+    at true r (inl e) = inr (inr e.0)
+    at false (Ok answers) (inl e) = inl e.0
+    at false (Err fault) (inl e) = inr (inl e.0)
+    at w r (inr e) = inr (inl e.0)
+
+not_none : (line : List ℕ) (lines : List (List ℕ)) → (length (line ∷ lines) == 0) ≡ false
+not_none line lines = elim (eqb_tells (length (line ∷ lines)) 0) [
+  | inl e ↦ absurd (omega (arith, e.1))
+  | inr e ↦ e.0
+]
+
+-- with status 0 nothing was said
+ended_well : (run : Run) (format : Format) (said : List (List ℕ)) (input : Option (List ℕ)) (status : ℕ)
+    (fact : List ℕ → List (List ℕ) → Type 0) → Ends (is_wrong true said) run said status fact →
+    IfOk run (λ answers. IfSome input (λ bytes. ChecksTo format bytes answers.items said)) → status ≡ 0 →
+    IfSome input (λ bytes. ChecksSaying format bytes (λ text failed. (failed ≡ []) × fact text failed))
+ended_well run format said None status fact ends checks zero = tt
+ended_well (Ok answers) format [] (Some bytes) status fact (inl e) checks zero =
+    (checks.0, checks.1, checks.2, answers.items, [], checks.3, (refl, e.1))
+ended_well (Err fault) format [] (Some bytes) status fact (inl e) checks zero = absurd (omega (arith, e.0, zero))
+ended_well run format (line ∷ lines) (Some bytes) status fact (inl e) checks zero =
+    let three : status ≡ 3 =
+    subst (λ (empty : Bool). status ≡ status_of (not empty) (is_ok run)) (not_none line lines) e.0 in
+    absurd (omega (arith, three, zero))
+ended_well run format said (Some bytes) status fact (inr e) checks zero = absurd (omega (arith, e.0, zero))
+
+pub silent_where_good : {E : Type 0} (result : Result ExitCode E) (failed : Bool) (run : Run) (format : Format)
+    (said : List (List ℕ)) (input : Option (List ℕ)) (fact : List ℕ → List (List ℕ) → Type 0) →
+    EndsOr result (is_wrong true said) run said fact failed →
+    IfOk run (λ answers. IfSome input (λ bytes. ChecksTo format bytes answers.items said)) →
+    OnStatus result 0 (IfSome input (λ bytes. ChecksSaying format bytes (λ text failed. (failed ≡ []) × fact text failed)))
+silent_where_good (Err e) failed run format said input fact ends checks = tt
+silent_where_good (Ok code) true run format said input fact ends checks =
+    λ zero. (let one : exit_status code ≡ 1 = ends.1 refl in absurd (omega (arith, one, zero)))
+silent_where_good (Ok code) false run format said input fact ends checks =
+    ended_well run format said input (exit_status code) fact (ends.0 refl) checks
+
+-- with status 3 something was
+ended_wrong : (run : Run) (format : Format) (said was : List (List ℕ)) (input : Option (List ℕ)) (status : ℕ)
+    (fact : List ℕ → List (List ℕ) → Type 0) → Ends (is_wrong true said) run said status fact →
+    IfOk run (λ answers. IfSome input (λ bytes. ChecksTo format bytes answers.items said)) → was ≡ [] →
+    ((line : ℕ) → run ≡ Err (faults.BadLine line) → IfSome input (λ bytes. said ≡ bad_lines (plain_text bytes))) →
+    IfErr run (λ fault. ((line : ℕ) → fault ≢ faults.BadLine line) → said ≡ was) → status ≡ 3 →
+    IfSome input (λ bytes. FailsSaying format bytes fact)
+ended_wrong run format said was None status fact ends checks none bad other three = tt
+ended_wrong run format said was (Some bytes) status fact (inr e) checks none bad other three =
+    absurd (omega (arith, e.0, three))
+ended_wrong (Ok answers) format [] was (Some bytes) status fact (inl e) checks none bad other three =
+    absurd (omega (arith, e.0, three))
+ended_wrong (Err fault) format [] was (Some bytes) status fact (inl e) checks none bad other three =
+    absurd (omega (arith, e.0, three))
+ended_wrong (Ok answers) format (line ∷ lines) was (Some bytes) status fact (inl e) checks none bad other three =
+    inl (checks.0, checks.1, checks.2, answers.items, line ∷ lines, checks.3, (λ same. cc, e.1))
+ended_wrong (Err (faults.BadLine n)) format (line ∷ lines) was (Some bytes) status fact (inl e) checks none bad other
+    three =
+    let same = bad n refl in
+    inr (subst (λ said. (said ≢ []) × fact [] said) same (λ none. cc, e.1))
+ended_wrong (Err faults.TooLong) format (line ∷ lines) was (Some bytes) status fact (inl e) checks none bad other three =
+    let never : line ∷ lines ≡ [] = other (λ n e. cc) ∙ none in absurd cc
+ended_wrong (Err faults.ReadFailed) format (line ∷ lines) was (Some bytes) status fact (inl e) checks none bad other
+    three =
+    let never : line ∷ lines ≡ [] = other (λ n e. cc) ∙ none in absurd cc
+ended_wrong (Err faults.WriteFailed) format (line ∷ lines) was (Some bytes) status fact (inl e) checks none bad other
+    three =
+    let never : line ∷ lines ≡ [] = other (λ n e. cc) ∙ none in absurd cc
+ended_wrong (Err faults.OutOfMemory) format (line ∷ lines) was (Some bytes) status fact (inl e) checks none bad other
+    three =
+    let never : line ∷ lines ≡ [] = other (λ n e. cc) ∙ none in absurd cc
+
+pub fails : {E : Type 0} (result : Result ExitCode E) (failed : Bool) (run : Run) (format : Format)
+    (said was : List (List ℕ)) (input : Option (List ℕ)) (fact : List ℕ → List (List ℕ) → Type 0) →
+    EndsOr result (is_wrong true said) run said fact failed →
+    IfOk run (λ answers. IfSome input (λ bytes. ChecksTo format bytes answers.items said)) → was ≡ [] →
+    ((line : ℕ) → run ≡ Err (faults.BadLine line) → IfSome input (λ bytes. said ≡ bad_lines (plain_text bytes))) →
+    IfErr run (λ fault. ((line : ℕ) → fault ≢ faults.BadLine line) → said ≡ was) →
+    OnStatus result 3 (IfSome input (λ bytes. FailsSaying format bytes fact))
+fails (Err e) failed run format said was input fact ends checks none bad other = tt
+fails (Ok code) true run format said was input fact ends checks none bad other =
+    λ three. (let one : exit_status code ≡ 1 = ends.1 refl in absurd (omega (arith, one, three)))
+fails (Ok code) false run format said was input fact ends checks none bad other =
+    ended_wrong run format said was input (exit_status code) fact (ends.0 refl) checks none bad other

@@ -1,3 +1,3 @@
 pub mod CheckedRuns
+pub mod Ended
 pub mod Recorded
-pub mod Warned

@@ -3,6 +3,7 @@
 
 mod checked_run;
 mod checking;
+mod ending;
 mod part_recording;
 mod recording;
 mod saying;

@@ -5,7 +5,7 @@ use Rattle.std.specs.Option.{is_none}
 use Rattle.streams.specs.Fields.{lines_of}
 use Rattle.thread_plans.specs.Plans.{PlanValue, StageValue, empty, sized, started, working, ◌>>=◌, or_line, after_text, line_count, plan_in, stage_from, whole_plan}
 use Rattle.thread_plans.specs.Wanted.{wanted, wanted_at_end}
-use Rattle.thread_plans.specs.BadLines.{Naming, bad_said, bad_text, count_one, said_from}
+use Rattle.thread_plans.specs.BadLines.{Naming, bad_lines, bad_said, count_one, said_from}
 use Rattle.thread_plans.specs.Laws.{NothingIsSaid, RefusedIsNamed}
 
 -- no line was bad yet
@@ -13,8 +13,8 @@ abbrev naming : StageValue → ℕ → Naming
 naming s number = record { stage = Some s; number = number; bad = 0 }
 
 -- this line is named first
-abbrev pub NamesFirst : ℕ → List ℕ → Type 0
-NamesFirst number text = (why : List ℕ) × (rest : List ℕ) × (text ≡ bad_said number (Some why) ++ rest)
+abbrev pub NamesFirst : ℕ → List (List ℕ) → Type 0
+NamesFirst number said = (why : List ℕ) × (rest : List (List ℕ)) × (said ≡ bad_said number (Some why) ++ rest)
 
 module _ (past : ℕ) where
   said_step : (s : StageValue) (number : ℕ) (line : List ℕ) (lines : List (List ℕ)) (o : Option StageValue) →
@@ -98,7 +98,7 @@ wanted_early (started q) e = absurd cc
 wanted_early (working q b) e = absurd cc
 
 pub nothing_is_said : NothingIsSaid
-unfolding bad_text plan_in
+unfolding bad_lines plan_in
 nothing_is_said text p e = at (stage_from empty 1 (lines_of text)) refl e
   where
     past : ℕ
@@ -117,7 +117,7 @@ nothing_is_said text p e = at (stage_from empty 1 (lines_of text)) refl e
             ∙ ap (λ why. bad_said past why ++ []) (wanted_whole s q some)
 
 pub refused_is_named : RefusedIsNamed
-unfolding bad_text plan_in
+unfolding bad_lines plan_in
 refused_is_named text number e = at (stage_from empty 1 (lines_of text)) refl e
   where
     past : ℕ

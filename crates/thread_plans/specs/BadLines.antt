@@ -1,7 +1,7 @@
 -- What is said of the bad lines of a script of threads.
 use Rattle.std.specs.Prelude.{ℕ, ◌+◌, Bool, ◌||◌, not, List, [], ◌∷◌, ◌++◌, is_some, nat_lt, if◌then◌else◌, Option, Some, None, codes, decimal}
 use Rattle.std.specs.Option.{is_none}
-use Rattle.streams.specs.Fields.{lines_of, output_line}
+use Rattle.streams.specs.Fields.{lines_of}
 use Rattle.streams.specs.Lines.{◌>>=◌, is_skipped}
 use Rattle.thread_plans.specs.Lines.{line_in}
 use Rattle.thread_plans.specs.Plans.{StageValue, empty, after_text, line_count}
@@ -12,9 +12,12 @@ abbrev pub most_named : ℕ
 most_named = 20
 
 -- of a line, by its number
-abbrev pub bad_said : ℕ → Option (List ℕ) → List ℕ
+abbrev pub why_said : ℕ → List ℕ → List (List ℕ)
+why_said number why = (codes "line " ++ (decimal number ++ (codes ": bad line: " ++ why))) ∷ []
+
+abbrev pub bad_said : ℕ → Option (List ℕ) → List (List ℕ)
 bad_said number None = []
-bad_said number (Some why) = output_line (codes "line " ++ decimal number ++ codes ": bad line: " ++ why)
+bad_said number (Some why) = why_said number why
 
 -- between two lines: what the lines came to, until one was bad; the number of the next one; and how many were bad
 pub record Naming : Type 0 where
@@ -41,7 +44,7 @@ wanted_behind (Some s) line = wanted s line
 abbrev pub why_bad : Option StageValue → List ℕ → Option (List ℕ)
 why_bad stage line = if is_bad stage line then Some (wanted_behind stage line) else None
 
-abbrev pub line_said : Naming → List ℕ → List ℕ
+abbrev pub line_said : Naming → List ℕ → List (List ℕ)
 line_said n line = if nat_lt n.bad most_named then bad_said n.number (why_bad n.stage line) else []
 
 abbrev pub count_one : Bool → ℕ
@@ -55,23 +58,23 @@ after_named n line = record {
 }
 
 -- how many lines were bad, where not all were named
-abbrev pub bad_sum : ℕ → List ℕ
-bad_sum bad = if nat_lt most_named bad then output_line (codes "bad lines: " ++ decimal bad) else []
+abbrev pub bad_sum : ℕ → List (List ℕ)
+bad_sum bad = if nat_lt most_named bad then (codes "bad lines: " ++ decimal bad) ∷ [] else []
 
 abbrev pub end_wanted : Option StageValue → Option (List ℕ)
 end_wanted stage = stage >>= wanted_at_end
 
 -- behind the last line, where the next would have this number: that the script stops early, if it does, and the sum
-abbrev pub end_said : ℕ → Naming → List ℕ
+abbrev pub end_said : ℕ → Naming → List (List ℕ)
 end_said next n = bad_said next (end_wanted n.stage) ++ bad_sum n.bad
 
-abbrev pub said_from : ℕ → Naming → List (List ℕ) → List ℕ
+abbrev pub said_from : ℕ → Naming → List (List ℕ) → List (List ℕ)
 said_from next n [] = end_said next n
 said_from next n (line ∷ lines) = line_said n line ++ said_from next (after_named n line) lines
 
 abbrev pub none_named : Naming
 none_named = record { stage = Some empty; number = 1; bad = 0 }
 
--- nothing, where the script has a plan
-unfoldable pub bad_text : List ℕ → List ℕ
-bad_text script = said_from (line_count script + 1) none_named (lines_of script)
+-- of a script, a line each: nothing, where it has a plan
+unfoldable pub bad_lines : List ℕ → List (List ℕ)
+bad_lines script = said_from (line_count script + 1) none_named (lines_of script)

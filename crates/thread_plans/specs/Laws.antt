@@ -1,7 +1,7 @@
 -- What is read of a script of threads is what the grammar says.
 use Rattle.std.specs.Prelude.{◌≡◌, ◌↔◌, ℕ, List, [], ◌++◌, Some, Ok, Err}
 use Rattle.thread_plans.specs.Plans.{PlanValue, plan_in}
-use Rattle.thread_plans.specs.BadLines.{bad_said, bad_text}
+use Rattle.thread_plans.specs.BadLines.{bad_lines, bad_said}
 use Rattle.thread_plans.specs.Grammar.{IsRefusedAt, IsScriptOf}
 
 -- a text is a script of one plan at most
@@ -18,9 +18,9 @@ LineIsRefused = (text : List ℕ) (number : ℕ) → (plan_in text ≡ Err numbe
 
 -- of a script with a plan nothing is said
 abbrev pub NothingIsSaid : Type 0
-NothingIsSaid = (text : List ℕ) (p : PlanValue) → plan_in text ≡ Ok p → bad_text text ≡ []
+NothingIsSaid = (text : List ℕ) (p : PlanValue) → plan_in text ≡ Ok p → bad_lines text ≡ []
 
 -- of any other the line that is refused is named first
 abbrev pub RefusedIsNamed : Type 0
 RefusedIsNamed = (text : List ℕ) (number : ℕ) → plan_in text ≡ Err number →
-    (why : List ℕ) × (rest : List ℕ) × (bad_text text ≡ bad_said number (Some why) ++ rest)
+    (why : List ℕ) × (rest : List (List ℕ)) × (bad_lines text ≡ bad_said number (Some why) ++ rest)

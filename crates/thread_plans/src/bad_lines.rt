@@ -1,10 +1,10 @@
 //! What is said of the bad lines of a script.
 
-ghost use Rattle.std.specs.Prelude.{◌≡◌, ◌++◌, ◌<◌, ◌≤◌, [], length, not, option_map, Some, None};
-ghost use Rattle.std.specs.Prelude.{if◌then◌else◌, IfOk, OnOk};
-ghost use Rattle.thread_plans.specs.BadLines.{after_named, bad_said, bad_sum, bad_text};
+ghost use Rattle.std.specs.Prelude.{◌≡◌, ◌++◌, ◌∷◌, ◌<◌, ◌≤◌, [], decimal, length, not, option_map};
+ghost use Rattle.std.specs.Prelude.{if◌then◌else◌, IfOk, OnOk, Some, None};
+ghost use Rattle.thread_plans.specs.BadLines.{after_named, bad_lines, bad_said, bad_sum};
 ghost use Rattle.thread_plans.specs.BadLines.{end_said, end_wanted, has_form, line_said, none_named};
-ghost use Rattle.thread_plans.specs.BadLines.{stage_behind, wanted_behind};
+ghost use Rattle.thread_plans.specs.BadLines.{stage_behind, wanted_behind, why_said};
 ghost use Rattle.thread_plans.specs.Named.{naming_value};
 ghost use Rattle.thread_plans.specs.Plans.{stage_value};
 
@@ -14,6 +14,7 @@ use crate::stage::{Stage, after_text};
 use crate::wanted::{wanted, wanted_at_end, wanted_in};
 use std::alloc::{AllocError, Global};
 use streams::{MOST_BYTES, is_skipped};
+use warnings::Warnings;
 
 /// The most lines of a kind that are named in what is said of a script.
 pub const MOST_NAMED: u32 = 20;
@@ -27,7 +28,7 @@ pub(crate) struct Naming<'a> {
     number: u32,
     // How many were bad.
     bad: u32,
-    said: Vec<u8>,
+    said: Warnings,
 }
 
 fn has_form(line: &[u8]) -> bool
@@ -78,21 +79,27 @@ fn end_wanted(stage: &Option<Stage<'_>>) -> Option<&'static str>
     }
 }
 
-// Says why a line is bad, if it is.
+// Says why a line is bad.
+fn say_why(alloc: Global, number: u32, why: &str, said: &mut Warnings) -> Result<(), AllocError>
+    ensures { OnOk result (said.new ≡ said.old ++ why_said number why.now) }
+{
+    said.push_text(format!(in alloc; "line {number}: bad line: {why}")?)
+}
+
+// The same, if it is.
 fn say_bad(
     alloc: Global,
     number: u32,
     why: Option<&'static str>,
-    said: &mut Vec<u8>,
+    said: &mut Warnings,
 ) -> Result<(), AllocError>
-    ensures { OnOk result (said.new.items
-        ≡ said.old.items ++ bad_said number (option_map (λ why. why.now) why.entry)) }
+    ensures { OnOk result (said.new
+        ≡ said.old ++ bad_said number (option_map (λ why. why.now) why.entry)) }
 {
-    let Some(why) = why else {
-        return Ok(());
-    };
-    let text = format!(in alloc; "line {number}: bad line: {why}\n")?;
-    said.extend_from_slice(text.as_bytes())
+    match why {
+        Some(why) => say_why(alloc, number, why, said),
+        None => Ok(()),
+    }
 }
 
 // Says what was wanted of a line that is bad.
@@ -101,9 +108,9 @@ fn say_line(
     number: u32,
     is_bad: bool,
     wanted: &'static str,
-    said: &mut Vec<u8>,
+    said: &mut Warnings,
 ) -> Result<(), AllocError>
-    ensures { OnOk result (said.new.items ≡ said.old.items
+    ensures { OnOk result (said.new ≡ said.old
         ++ bad_said number (if is_bad then Some wanted.now else None)) }
 {
     if is_bad {
@@ -113,27 +120,38 @@ fn say_line(
     }
 }
 
+/// Says how many there are of something.
+pub fn say_count(
+    alloc: Global,
+    front: &str,
+    count: u128,
+    said: &mut Warnings,
+) -> Result<(), AllocError>
+    ensures { OnOk result (said.new ≡ said.old ++ (front.now ++ decimal count) ∷ []) }
+{
+    said.push_text(format!(in alloc; "{front}{count}")?)
+}
+
 // Says how many lines were bad, where not all were named.
-fn say_sum(alloc: Global, bad: u32, said: &mut Vec<u8>) -> Result<(), AllocError>
-    ensures { OnOk result (said.new.items ≡ said.old.items ++ bad_sum bad) }
+fn say_sum(alloc: Global, bad: u32, said: &mut Warnings) -> Result<(), AllocError>
+    ensures { OnOk result (said.new ≡ said.old ++ bad_sum bad) }
 {
     if bad <= MOST_NAMED {
         return Ok(());
     }
-    let text = format!(in alloc; "bad lines: {bad}\n")?;
-    said.extend_from_slice(text.as_bytes())
+    say_count(alloc, "bad lines: ", bad as u128, said)
 }
 
 impl<'a> Naming<'a> {
     fn new(alloc: Global) -> Naming<'a>
         ensures state { naming_value result ≡ none_named }
-        ensures said { result.said.items ≡ [] }
+        ensures said { result.said ≡ [] }
     {
         Naming {
             stage: Some(Stage::Empty),
             number: 1,
             bad: 0,
-            said: Vec::new(alloc),
+            said: Warnings::new(alloc),
         }
     }
 
@@ -142,8 +160,8 @@ impl<'a> Naming<'a> {
         requires bad { self.bad < self.number }
         ensures state { IfOk result (λ next.
             naming_value next ≡ after_named (naming_value self.entry) line.now) }
-        ensures said { IfOk result (λ next. next.said.items
-            ≡ self.entry.said.items ++ line_said (naming_value self.entry) line.now) }
+        ensures said { IfOk result (λ next. next.said
+            ≡ self.entry.said ++ line_said (naming_value self.entry) line.now) }
     {
         let Naming {
             stage,
@@ -167,9 +185,9 @@ impl<'a> Naming<'a> {
     }
 
     // All that is said, where the line behind the last would have this number.
-    fn end(self, alloc: Global, next: u32) -> Result<Vec<u8>, AllocError>
-        ensures { IfOk result (λ said. said.items
-            ≡ self.entry.said.items ++ end_said next (naming_value self.entry)) }
+    fn end(self, alloc: Global, next: u32) -> Result<Warnings, AllocError>
+        ensures { IfOk result (λ said. said
+            ≡ self.entry.said ++ end_said next (naming_value self.entry)) }
     {
         let Naming {
             stage,
@@ -186,9 +204,9 @@ impl<'a> Naming<'a> {
 /// What is said of a script without a plan, a line for each: of its first bad line, with its number,
 /// what was wanted of it; and of each line behind it that has none of the forms. 20 lines are named at
 /// most, and then it is said how many there were. Of a script with a plan nothing is said.
-pub fn bad_lines_of(alloc: Global, script: &[u8]) -> Result<Vec<u8>, AllocError>
+pub fn bad_lines_of(alloc: Global, script: &[u8]) -> Result<Warnings, AllocError>
     requires { length script.now ≤ MOST_BYTES }
-    ensures { IfOk result (λ said. said.items ≡ bad_text script.now) }
+    ensures { IfOk result (λ said. said ≡ bad_lines script.now) }
 {
     let mut naming = Naming::new(alloc);
     for line in script.split(|byte| *byte == b'\n') {

@@ -13,7 +13,7 @@ pub fn plans_are_read()
 {}
 
 /// Of a script with a plan nothing is said, and of any other the line that is refused is named first
-/// (`bad_text`).
+/// (`bad_lines`).
 pub fn bad_lines_are_named()
     ensures nothing { NothingIsSaid }
     ensures first { RefusedIsNamed }

@@ -12,7 +12,7 @@ mod reading;
 mod stage;
 mod wanted;
 
-pub use bad_lines::{MOST_NAMED, bad_lines_of};
+pub use bad_lines::{MOST_NAMED, bad_lines_of, say_count};
 pub use line::Start;
 pub use line_calls::call_in_line;
 pub use line_numbers::{start_lines_of, worker_lines_of};

@@ -11,9 +11,8 @@ mod rounds;
 mod run;
 mod starts;
 mod steps;
-mod warnings;
 
-pub use output::{judged_output_of, output_of};
+pub use output::{Judged, judged_of, output_of, told_of};
 pub use played::{Played, play, play_waiting};
 pub use run::{run_threads, run_threads_warning};
 pub use thread_plans::{
@@ -21,4 +20,3 @@ pub use thread_plans::{
 };
 pub use thread_warnings::read_plan_saying;
 pub use thread_workers::{Await, Waits};
-pub use warnings::warnings_of;

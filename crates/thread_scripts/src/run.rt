@@ -1,42 +1,44 @@
 //! A script of threads from a reader, and what it prints to a writer.
 
 ghost use Rattle.std.specs.Prelude.{◌≡◌, ◌≢◌, ℕ, ◌+◌, ◌<◌, ◌≤◌, ◌↔◌, ◌⊎◌, true, false, length};
-ghost use Rattle.std.specs.Prelude.{IfErr, IfOk, OnOk, string_bytes};
+ghost use Rattle.std.specs.Prelude.{IfErr, IfOk, OnOk};
+ghost use Rattle.answers.specs.declared.printed.Format.TheVariants.{Lines};
 ghost use Rattle.streams.specs.declared.fault.ScriptFault.TheVariants.{BadLine, OutOfMemory};
 ghost use Rattle.streams.specs.declared.fault.ScriptFault.TheVariants.{ReadFailed, TooLong};
 ghost use Rattle.streams.specs.declared.fault.ScriptFault.TheVariants.{WriteFailed};
 ghost use Rattle.streams.specs.Watched.{has_failed, has_unflushed};
 ghost use Rattle.streams.specs.Streams.{IfInput, ReadsUpTo, Writes, WritesPrefix};
-ghost use Rattle.thread_scripts.specs.Outputs.{ComesTo, ComesToSaying, PlaysSaying, PlaysTo};
-ghost use Rattle.thread_plans.specs.BadLines.{bad_text};
+ghost use Rattle.thread_scripts.specs.Outputs.{ComesTo, ComesToSaying, PlaysTo};
+ghost use Rattle.thread_plans.specs.BadLines.{bad_lines};
 ghost use Rattle.thread_plans.specs.Plans.{plan_in};
 
-use crate::output::{judged_output_of, output_of};
+use crate::output::{output_of, told_of};
 use crate::played::play;
-use crate::warnings::warnings_of;
+use answers::Format;
 use std::alloc::Global;
 use std::io::{Read, Write};
 use std::sync::Wait;
 use std::thread::Threads;
 use streams::{MOST_BYTES, ScriptFault, Watched, read_script, write_text};
 use thread_plans::read_plan;
-use thread_warnings::{read_plan_saying, write_saying};
+use thread_warnings::read_plan_saying;
+use warnings::Warnings;
 
-// What a script comes to, or its first bad line.
+// What a script prints, or its first bad line.
 fn played_text<R: Threads + Wait + Sync>(
     rt: &R,
     alloc: Global,
     script: &[u8],
-) -> Result<String, ScriptFault>
+) -> Result<Vec<u8>, ScriptFault>
     requires { length script.now ≤ MOST_BYTES }
-    ensures ok { IfOk result (λ text. ComesTo script.now (string_bytes text)) }
+    ensures ok { IfOk result (λ text. ComesTo Lines script.now text.items) }
     ensures bad { (line : ℕ) → result ≡ Err (BadLine line) → plan_in script.now ≡ Err line }
     ensures only { IfErr result (λ fault.
         (fault ≡ OutOfMemory) ⊎ ((line : ℕ) × (fault ≡ BadLine line))) }
 {
     let plan = read_plan(alloc, script)?;
     let played = play(rt, alloc, &plan)?;
-    let text = output_of(alloc, &plan, &played)?;
+    let text = output_of(alloc, Format::Lines, &plan, &played)?;
     Ok(text)
 }
 
@@ -56,12 +58,12 @@ pub fn run_threads<R: Threads + Wait + Sync, I: Read, O: Write>(
 
     // The script has a plan, and its whole output is written: of some traces and receipts.
     ensures ok { OnOk result (IfInput I.remaining reader.old (λ input.
-        PlaysTo input (Writes O.contents writer.old writer.new))) }
+        PlaysTo Lines input (Writes O.contents writer.old writer.new))) }
     // All that was written is flushed.
     ensures flushed { OnOk result (has_unflushed writer.new ≡ false) }
     // Where a write failed, a prefix of it.
     ensures prefix { result ≡ Err WriteFailed → IfInput I.remaining reader.old (λ input.
-        PlaysTo input (WritesPrefix O.contents writer.old writer.new)) }
+        PlaysTo Lines input (WritesPrefix O.contents writer.old writer.new)) }
     // After any other fault the writer is as it was.
     ensures unwritten { IfErr result (λ fault. fault ≢ WriteFailed → writer.new ≡ writer.old) }
 
@@ -80,71 +82,68 @@ pub fn run_threads<R: Threads + Wait + Sync, I: Read, O: Write>(
 {
     let script = read_script(alloc, reader)?;
     let text = played_text(rt, alloc, script.as_slice())?;
-    write_text(writer, text.as_bytes())
+    write_text(writer, &text)
 }
 
-// What a script comes to, and what it is warned of. Where it has no plan, what is said becomes what was
-// wanted of its bad lines.
-fn played_texts<R: Threads + Wait + Sync>(
+// What a script prints in a format. What is said becomes what it is warned of or, if it has no plan, what
+// was wanted of its bad lines.
+fn played_saying<R: Threads + Wait + Sync>(
     rt: &R,
     alloc: Global,
+    format: Format,
     script: &[u8],
-    said: &mut Vec<u8>,
-) -> Result<(String, Vec<u8>), ScriptFault>
+    said: &mut Warnings,
+) -> Result<Vec<u8>, ScriptFault>
     requires { length script.now ≤ MOST_BYTES }
-    ensures ok { IfOk result (λ both.
-        ComesToSaying script.now (string_bytes both.0) both.1.items) }
+    ensures ok { IfOk result (λ printed.
+        ComesToSaying format script.now printed.items said.new) }
     ensures bad { (line : ℕ) → result ≡ Err (BadLine line) → plan_in script.now ≡ Err line }
     ensures bad_said { (line : ℕ) → result ≡ Err (BadLine line) →
-        said.new.items ≡ bad_text script.now }
+        said.new ≡ bad_lines script.now }
     ensures unsaid { IfErr result (λ fault.
         ((line : ℕ) → fault ≢ BadLine line) → said.new ≡ said.old) }
-    ensures kept { OnOk result (said.new ≡ said.old) }
     ensures only { IfErr result (λ fault.
         (fault ≡ OutOfMemory) ⊎ ((line : ℕ) × (fault ≡ BadLine line))) }
 {
     let plan = read_plan_saying(alloc, script, said)?;
     let played = play(rt, alloc, &plan)?;
-    let (text, yes) = judged_output_of(alloc, &plan, &played)?;
-    let warned = warnings_of(alloc, script, &plan, &played, yes)?;
-    Ok((text, warned))
+    let (printed, warned) = told_of(alloc, format, script, &plan, &played)?;
+    *said = warned;
+    Ok(printed)
 }
 
-/// Runs the script of threads that a reader gives as `run_threads` does, and sets what is said to what
-/// it is warned of; or, where it is refused for a bad line, to what was wanted of its bad lines. After
-/// any other fault what is said is as it was.
-pub fn run_threads_warning<R: Threads + Wait + Sync, I: Read, O: Write>(
+/// Runs the script of threads that a reader gives, and returns what it prints in a format. Sets what is
+/// said to what it is warned of; or, where it is refused for a bad line, to what was wanted of its bad
+/// lines. After any other fault what is said is as it was.
+pub fn run_threads_warning<R: Threads + Wait + Sync, I: Read>(
     rt: &R,
     alloc: Global,
+    format: Format,
     reader: &mut Watched<I>,
-    writer: &mut Watched<O>,
-    said: &mut Vec<u8>,
-) -> Result<(), ScriptFault>
-    requires reader { has_failed reader.old ≡ false }
-    requires writer { has_failed writer.old ≡ false }
+    said: &mut Warnings,
+) -> Result<Vec<u8>, ScriptFault>
+    requires { has_failed reader.old ≡ false }
 
-    // The script has a plan, its whole output is written, of some traces and receipts, and what is
-    // said is what it is warned of, of just these.
-    ensures ok { OnOk result (IfInput I.remaining reader.old (λ input. PlaysSaying input
-        (Writes O.contents writer.old writer.new) (λ warned. said.new.items ≡ warned))) }
-    ensures flushed { OnOk result (has_unflushed writer.new ≡ false) }
-    ensures unwritten { IfErr result (λ fault. fault ≢ WriteFailed → writer.new ≡ writer.old) }
+    // The script has a plan, this is its whole output, of some traces and receipts, and what is said is
+    // what it is warned of, of just these.
+    ensures ok { IfOk result (λ printed. IfInput I.remaining reader.old (λ input.
+        ComesToSaying format input printed.items said.new)) }
 
     // The line is the first that is bad.
     ensures bad_line { (line : ℕ) → result ≡ Err (BadLine line) →
         IfInput I.remaining reader.old (λ input. plan_in input ≡ Err line) }
     ensures bad_said { (line : ℕ) → result ≡ Err (BadLine line) →
-        IfInput I.remaining reader.old (λ input. said.new.items ≡ bad_text input) }
+        IfInput I.remaining reader.old (λ input. said.new ≡ bad_lines input) }
     ensures unsaid { IfErr result (λ fault.
         ((line : ℕ) → fault ≢ BadLine line) → said.new ≡ said.old) }
     ensures read_failed { (result ≡ Err ReadFailed) ↔ (has_failed reader.new ≡ true) }
-    ensures write_failed { (result ≡ Err WriteFailed) ↔ (has_failed writer.new ≡ true) }
+    ensures no_write { result ≢ Err WriteFailed }
     ensures long { IfInput I.remaining reader.old (λ input. MOST_BYTES < length input →
         (result ≡ Err TooLong) ⊎ (has_failed reader.new ≡ true) ⊎ (result ≡ Err OutOfMemory)) }
     ensures too_long { result ≡ Err TooLong →
         IfInput I.remaining reader.old (λ input. MOST_BYTES < length input) }
+    ensures taken { ReadsUpTo (MOST_BYTES + 1) I.remaining reader.old reader.new }
 {
     let script = read_script(alloc, reader)?;
-    let (text, warned) = played_texts(rt, alloc, script.as_slice(), said)?;
-    write_saying(writer, text.as_bytes(), warned, said)
+    played_saying(rt, alloc, format, script.as_slice(), said)
 }

@@ -102,7 +102,7 @@ one_placed lines refused i d faults longer below so_far long grown =
 -- ---- what is said
 
 module _ (refused : StartFaults) (numbers : List ℕ) (i : ℕ) where
-  abbrev said_then : ℕ → ℕ → ℕ → List ℕ
+  abbrev said_then : ℕ → ℕ → ℕ → List (List ℕ)
   said_then place named number =
       start_refused named number (fault_at refused place)
       ++ refused_from refused (place + 1) (named + count_one (is_some (fault_at refused place))) (drop (i + 1) numbers)
@@ -112,7 +112,7 @@ module _ (refused : StartFaults) (numbers : List ℕ) (i : ℕ) where
   refused-drop place named d below = at_drop_more (refused_from refused place named) numbers i d below
 
   -- with one line more
-  pub one_start : (place named later after d : ℕ) (out longer all : List ℕ) → i < length numbers →
+  pub one_start : (place named later after d : ℕ) (out longer all : List (List ℕ)) → i < length numbers →
       out ++ refused_from refused place named (drop i numbers) ≡ all →
       longer ≡ out ++ start_refused named (slice_index_or numbers i d) (fault_at refused place) → later ≡ place + 1 →
       after ≡ named + count_one (is_some (fault_at refused place)) →
@@ -122,7 +122,7 @@ module _ (refused : StartFaults) (numbers : List ℕ) (i : ℕ) where
       rw (stepped, counted, grown) (rw append_assoc (ap (λ y. out ++ y) (sym next_one) ∙ so_far))
 
   -- behind the last
-  pub all_starts : (place named : ℕ) (out longer all : List ℕ) → length numbers ≤ i →
+  pub all_starts : (place named : ℕ) (out longer all : List (List ℕ)) → length numbers ≤ i →
       out ++ refused_from refused place named (drop i numbers) ≡ all → longer ≡ out ++ refused_sum named →
       longer ≡ all
   all_starts place named out longer all past so_far grown =

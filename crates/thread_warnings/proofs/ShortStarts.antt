@@ -12,7 +12,7 @@ range_more n =
     ∙ ap (λ xs. xs ++ n ∷ []) (map-id (range_with_len 0 n))
 
 -- with one node more
-pub one_node : (f : ℕ → List ℕ) (n : ℕ) (first out longer : List ℕ) → out ≡ first ++ flat_map f (range_with_len 0 n) →
+pub one_node : (f : ℕ → List (List ℕ)) (n : ℕ) (first out longer : List (List ℕ)) → out ≡ first ++ flat_map f (range_with_len 0 n) →
     longer ≡ out ++ f n → longer ≡ first ++ flat_map f (range_with_len 0 (n + 1))
 one_node f n first out longer so_far grown =
     let alone : flat_map f (n ∷ []) ≡ f n = flat_map-cons f n [] ∙ append-nil (f n) in

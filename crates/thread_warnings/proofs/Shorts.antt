@@ -1,6 +1,6 @@
 -- What is said of workers, one after the other.
 use Rattle.std.proofs.Common.{◌≡◌, ℕ, ◌+◌, ◌<◌, ◌≤◌, Bool, true, false, List, ◌++◌, length, drop, map, sym, ap, ◌∙◌, append_assoc, arith}
-use Rattle.std.specs.Prelude.{nat_lt, slice_index_or, is_ok, if◌then◌else◌, OnOk, Result, Ok, Err}
+use Rattle.std.specs.Prelude.{nat_lt, slice_index_or}
 use Rattle.std.proofs.lemmas.List.{at_drop_more, at_drop_all, get_or-map, length-map}
 use Rattle.thread_warnings.specs.Runs.{Lists}
 use Rattle.thread_plans.specs.declared.plan.Block.{Block}
@@ -12,14 +12,8 @@ pub no_more : (b : Bool) (n m k next : ℕ) → n ≤ m → k ≡ n + count_one 
 no_more true n m k next h e f = omega arith
 no_more false n m k next h e f = omega arith
 
--- a text that was added, where it could be
-pub grown_by : {T E : Type 0} (r : Result T E) (new was more text : List ℕ) →
-    new ≡ (if is_ok r then was ++ more else was) → more ≡ text → OnOk r (new ≡ was ++ text)
-grown_by (Ok x) new was more text grown is = grown ∙ ap (λ t. was ++ t) is
-grown_by (Err x) new was more text grown is = tt
-
 module _ (plan : PlanValue) (lists : Lists) (numbers : List ℕ) (blocks : List Block) (i : ℕ) where
-  abbrev said_then : ℕ → ℕ → BlockValue → List ℕ
+  abbrev said_then : ℕ → ℕ → BlockValue → List (List ℕ)
   said_then before named b =
       short_said named (number_at numbers before) (short_of plan lists before b)
       ++ shorts_from plan lists numbers (before + 1) (named + count_one (nat_lt 0 (short_of plan lists before b)))
@@ -34,7 +28,7 @@ module _ (plan : PlanValue) (lists : Lists) (numbers : List ℕ) (blocks : List 
       ∙ ap (said_then before named) (get_or-map block_value blocks i x (block_value x) below ∙ ap block_value (sym here))
 
   -- with one worker more
-  pub one_short : (before named later after : ℕ) (x : Block) (out longer all : List ℕ) → i < length blocks →
+  pub one_short : (before named later after : ℕ) (x : Block) (out longer all : List (List ℕ)) → i < length blocks →
       x ≡ slice_index_or blocks i x
       → out ++ shorts_from plan lists numbers before named (drop i (map block_value blocks)) ≡ all →
       longer ≡ out ++ short_said named (number_at numbers before) (short_of plan lists before (block_value x)) → later ≡ before + 1 →
@@ -45,7 +39,7 @@ module _ (plan : PlanValue) (lists : Lists) (numbers : List ℕ) (blocks : List 
       rw (stepped, counted, grown) (rw append_assoc (ap (λ y. out ++ y) (sym next_one) ∙ so_far))
 
   -- behind the last
-  pub all_short : (before named : ℕ) (out longer all : List ℕ) → length blocks ≤ i →
+  pub all_short : (before named : ℕ) (out longer all : List (List ℕ)) → length blocks ≤ i →
       out ++ shorts_from plan lists numbers before named (drop i (map block_value blocks)) ≡ all →
       longer ≡ out ++ short_sum named → longer ≡ all
   all_short before named out longer all past so_far grown =

@@ -16,7 +16,7 @@ module _ (lines : List (List ℕ)) (n : ℕ) where
       ∙ ap (λ x. line_said u x ++ said_from (line_counted u x) (drop (n + 1) lines)) (sym e)
 
   -- with one line more
-  pub one_said : (u later : Unfit) (m : ℕ) (line out longer all : List ℕ) → n < length lines →
+  pub one_said : (u later : Unfit) (m : ℕ) (line : List ℕ) (out longer all : List (List ℕ)) → n < length lines →
       line ≡ get_or lines n line → m ≡ n + 1 → out ++ said_from u (drop n lines) ≡ all →
       longer ≡ out ++ line_said u line → later ≡ line_counted u line → longer ++ said_from later (drop m lines) ≡ all
   one_said u later m line out longer all h e last so_far grown stepped =
@@ -24,7 +24,7 @@ module _ (lines : List (List ℕ)) (n : ℕ) where
       rw (grown, stepped, last) (rw append_assoc (ap (λ x. out ++ x) (sym next_one) ∙ so_far))
 
   -- behind the last line
-  pub all_said : (u : Unfit) (out longer all : List ℕ) → n ≡ length lines → out ++ said_from u (drop n lines) ≡ all →
+  pub all_said : (u : Unfit) (out longer all : List (List ℕ)) → n ≡ length lines → out ++ said_from u (drop n lines) ≡ all →
       longer ≡ out ++ unfit_sum u.unfit → longer ≡ all
   all_said u out longer all e so_far grown =
       let none : said_from u (drop n lines) ≡ unfit_sum u.unfit = at_drop_all (said_from u) lines n (omega arith) in

@@ -2,7 +2,6 @@
 use Rattle.std.specs.Prelude.{◌≡◌, ◌<◌, ℕ, ◌+◌, ◌==◌, Bool, List, [], ◌∷◌, ◌++◌, is_some, length, nat_lt, slice_index_or, slice_set, if◌then◌else◌, Option, Some, None, option_map, codes, decimal}
 use Rattle.std.specs.List.{find}
 use Rattle.node_calls.specs.declared.fault.NodeFault.{NodeFault}
-use Rattle.streams.specs.Fields.{output_line}
 use Rattle.thread_plans.specs.BadLines.{count_one, most_named}
 use Rattle.thread_warnings.specs.Runs.{StartFaults}
 use Rattle.thread_warnings.specs.Unfit.{unfit_said}
@@ -32,20 +31,20 @@ AreByPlace lines refused faults =
 -- ---- what is said
 
 -- of a line of this number, behind so many that were refused
-abbrev pub start_refused : ℕ → ℕ → Option NodeFault → List ℕ
+abbrev pub start_refused : ℕ → ℕ → Option NodeFault → List (List ℕ)
 start_refused named number fault = if nat_lt named most_named then unfit_said number fault else []
 
-abbrev pub refused_sum : ℕ → List ℕ
+abbrev pub refused_sum : ℕ → List (List ℕ)
 refused_sum named =
-    if nat_lt most_named named then output_line (codes "rejected start lines: " ++ decimal named) else []
+    if nat_lt most_named named then (codes "rejected start lines: " ++ decimal named) ∷ [] else []
 
 -- of lines with these numbers, the first of which has this place
-abbrev pub refused_from : StartFaults → ℕ → ℕ → List ℕ → List ℕ
+abbrev pub refused_from : StartFaults → ℕ → ℕ → List ℕ → List (List ℕ)
 refused_from refused place named [] = refused_sum named
 refused_from refused place named (number ∷ numbers) =
     start_refused named number (fault_at refused place)
     ++ refused_from refused (place + 1) (named + count_one (is_some (fault_at refused place))) numbers
 
 -- of all lines with these numbers
-unfoldable pub refused_starts : List ℕ → StartFaults → List ℕ
+unfoldable pub refused_starts : List ℕ → StartFaults → List (List ℕ)
 refused_starts numbers refused = refused_from refused 0 0 numbers

@@ -2,7 +2,6 @@
 use Rattle.std.specs.Prelude.{ℕ, ◌+◌, ◌-◌, ◌*◌, ◌==◌, Bool, ◌&&◌, List, [], ◌∷◌, ◌++◌, count_by, nat_lt, slice_get, take, if◌then◌else◌, codes, decimal, vec_len}
 use Rattle.std.specs.Option.{is_some, option_map_or}
 use Rattle.thread_warnings.specs.Runs.{Lists}
-use Rattle.streams.specs.Fields.{output_line}
 use Rattle.thread_plans.specs.BadLines.{count_one, most_named}
 use Rattle.thread_plans.specs.Plans.{BlockValue, PlanValue, calls_in}
 
@@ -35,28 +34,26 @@ abbrev pub is_named : ℕ → ℕ → Bool
 is_named named short = nat_lt 0 short && nat_lt named most_named
 
 -- of the worker that begins in a line of this number
-abbrev pub line_short : ℕ → ℕ → List ℕ
-line_short number short =
-    codes "line " ++ (decimal number ++ (codes ": calls not accepted: " ++ output_line (decimal short)))
+abbrev pub line_short : ℕ → ℕ → List (List ℕ)
+line_short number short = (codes "line " ++ (decimal number ++ (codes ": calls not accepted: " ++ decimal short))) ∷ []
 
-abbrev pub short_said : ℕ → ℕ → ℕ → List ℕ
+abbrev pub short_said : ℕ → ℕ → ℕ → List (List ℕ)
 short_said named number short = if is_named named short then line_short number short else []
 
-abbrev pub short_sum : ℕ → List ℕ
+abbrev pub short_sum : ℕ → List (List ℕ)
 short_sum named =
-    if nat_lt most_named named
-    then output_line (codes "workers with such calls: " ++ decimal named) else []
+    if nat_lt most_named named then (codes "workers with such calls: " ++ decimal named) ∷ [] else []
 
 abbrev pub number_at : List ℕ → ℕ → ℕ
 number_at numbers place = option_map_or (λ n. n) (slice_get numbers place) 0
 
 -- of workers, before the first of which so many blocks stand
-abbrev pub shorts_from : PlanValue → Lists → List ℕ → ℕ → ℕ → List BlockValue → List ℕ
+abbrev pub shorts_from : PlanValue → Lists → List ℕ → ℕ → ℕ → List BlockValue → List (List ℕ)
 shorts_from plan lists numbers before named [] = short_sum named
 shorts_from plan lists numbers before named (b ∷ bs) =
     short_said named (number_at numbers before) (short_of plan lists before b)
     ++ shorts_from plan lists numbers (before + 1) (named + count_one (nat_lt 0 (short_of plan lists before b))) bs
 
 -- of all workers of a plan, which begin in lines of these numbers
-unfoldable pub shorts_text : PlanValue → Lists → List ℕ → List ℕ
-shorts_text plan lists numbers = shorts_from plan lists numbers 0 0 plan.blocks
+unfoldable pub shorts_lines : PlanValue → Lists → List ℕ → List (List ℕ)
+shorts_lines plan lists numbers = shorts_from plan lists numbers 0 0 plan.blocks

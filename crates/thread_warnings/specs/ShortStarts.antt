@@ -1,11 +1,10 @@
 -- Calls that nodes make before their workers and that weren't accepted, as the receipts tell.
-use Rattle.std.specs.Prelude.{ℕ, ◌-◌, ◌==◌, Bool, true, false, ◌&&◌, not, List, [], ◌++◌, count_by, nat_lt, slice_get, if◌then◌else◌, codes, decimal}
+use Rattle.std.specs.Prelude.{ℕ, ◌-◌, ◌==◌, Bool, true, false, ◌&&◌, not, List, [], ◌∷◌, ◌++◌, count_by, nat_lt, slice_get, if◌then◌else◌, codes, decimal}
 use Rattle.std.specs.List.{flat_map, range_with_len}
 use Rattle.std.specs.Option.{option_map_or}
 use Rattle.thread_warnings.specs.Runs.{Lists}
 use Rattle.node_calls.specs.Told.{AskTold, ask_told, shifts}
 use Rattle.node_calls.specs.declared.receipt.Receipt.{Receipt}
-use Rattle.streams.specs.Fields.{output_line}
 use Rattle.thread_plans.specs.Lines.{StartValue, makes, spreads}
 use Rattle.thread_plans.specs.Plans.{PlanValue}
 use Rattle.thread_warnings.specs.Short.{first_place}
@@ -45,16 +44,16 @@ start_receipts plan lists node =
     option_map_or (λ list. counted_in (spreads_at plan node) list.items) (slice_get lists (first_place plan node)) 0
 
 -- what is said of a node where there are fewer receipts
-abbrev pub node_short : ℕ → ℕ → List ℕ
+abbrev pub node_short : ℕ → ℕ → List (List ℕ)
 node_short node short =
-    codes "node " ++ (decimal node ++ (codes ": start calls not accepted: " ++ output_line (decimal short)))
+    (codes "node " ++ (decimal node ++ (codes ": start calls not accepted: " ++ decimal short))) ∷ []
 
-abbrev pub start_said : ℕ → ℕ → ℕ → List ℕ
+abbrev pub start_said : ℕ → ℕ → ℕ → List (List ℕ)
 start_said node calls receipts = if nat_lt receipts calls then node_short node (calls - receipts) else []
 
-abbrev pub node_said : PlanValue → Lists → ℕ → List ℕ
+abbrev pub node_said : PlanValue → Lists → ℕ → List (List ℕ)
 node_said plan lists node = start_said node (start_calls plan node) (start_receipts plan lists node)
 
 -- of all nodes
-unfoldable pub starts_text : PlanValue → Lists → List ℕ
-starts_text plan lists = flat_map (node_said plan lists) (range_with_len 0 plan.nodes)
+unfoldable pub starts_lines : PlanValue → Lists → List (List ℕ)
+starts_lines plan lists = flat_map (node_said plan lists) (range_with_len 0 plan.nodes)

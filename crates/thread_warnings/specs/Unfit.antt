@@ -13,7 +13,7 @@ use Rattle.node_calls.specs.declared.reply.Reply.{Reply}
 use Rattle.node_calls.specs.declared.reply.Reply.TheVariants as replies
 use Rattle.node_steps.specs.Refusals.{bad_actions, bad_setting, no_name}
 use Rattle.refusals.specs.Refusals.{first_fault}
-use Rattle.streams.specs.Fields.{lines_of, output_line}
+use Rattle.streams.specs.Fields.{lines_of}
 use Rattle.streams.specs.Lines.{◌>>=◌}
 use Rattle.thread_plans.specs.BadLines.{count_one, most_named}
 use Rattle.thread_plans.specs.LineCalls.{call_in}
@@ -37,34 +37,37 @@ why_unfit line = call_in line >>= why_refused
 
 -- ---- what is said
 
-abbrev pub unfit_said : ℕ → Option NodeFault → List ℕ
+abbrev pub fault_said : ℕ → NodeFault → List (List ℕ)
+fault_said number fault =
+    (codes "line " ++ (decimal number ++ (codes ": refused " ++ node_fault_text fault))) ∷ []
+
+abbrev pub unfit_said : ℕ → Option NodeFault → List (List ℕ)
 unfit_said number None = []
-unfit_said number (Some fault) =
-    output_line (codes "line " ++ decimal number ++ codes ": refused " ++ node_fault_text fault)
+unfit_said number (Some fault) = fault_said number fault
 
 -- between two lines: the number of the next one, and how many lines were unfit
 pub record Unfit : Type 0 where
   pub number : ℕ
   pub unfit : ℕ
 
-abbrev pub line_said : Unfit → List ℕ → List ℕ
+abbrev pub line_said : Unfit → List ℕ → List (List ℕ)
 line_said u line = if nat_lt u.unfit most_named then unfit_said u.number (why_unfit line) else []
 
 abbrev pub line_counted : Unfit → List ℕ → Unfit
 line_counted u line = record { number = u.number + 1; unfit = u.unfit + count_one (is_some (why_unfit line)) }
 
-abbrev pub unfit_sum : ℕ → List ℕ
-unfit_sum unfit = if nat_lt most_named unfit then output_line (codes "rejected lines: " ++ decimal unfit) else []
+abbrev pub unfit_sum : ℕ → List (List ℕ)
+unfit_sum unfit = if nat_lt most_named unfit then (codes "rejected lines: " ++ decimal unfit) ∷ [] else []
 
-abbrev pub said_from : Unfit → List (List ℕ) → List ℕ
+abbrev pub said_from : Unfit → List (List ℕ) → List (List ℕ)
 said_from u [] = unfit_sum u.unfit
 said_from u (line ∷ lines) = line_said u line ++ said_from (line_counted u line) lines
 
 abbrev pub none_unfit : Unfit
 none_unfit = record { number = 1; unfit = 0 }
 
-unfoldable pub unfit_text : List ℕ → List ℕ
-unfit_text script = said_from none_unfit (lines_of script)
+unfoldable pub unfit_lines : List ℕ → List (List ℕ)
+unfit_lines script = said_from none_unfit (lines_of script)
 
 -- ---- passes of points that aren't set
 
@@ -75,6 +78,6 @@ is_unset _ = false
 abbrev pub unset_in : Lists → ℕ
 unset_in lists = sum_by (λ list. count_by (λ (r : Receipt). is_unset r.entry.reply) list.items) lists
 
-abbrev pub unset_sum : ℕ → List ℕ
+abbrev pub unset_sum : ℕ → List (List ℕ)
 unset_sum unset =
-    if unset == 0 then [] else output_line (codes "evaluations of points that aren't set: " ++ decimal unset)
+    if unset == 0 then [] else (codes "evaluations of points that aren't set: " ++ decimal unset) ∷ []

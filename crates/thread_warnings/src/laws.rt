@@ -9,7 +9,7 @@ pub fn unfit_calls_are_refused()
 {}
 
 /// Each call of a worker that was refused is counted in one of the lines that say how many were refused
-/// with a code (`refused_text`): in that of the code with which the text of its fault begins.
+/// with a code (`refused_lines`): in that of the code with which the text of its fault begins.
 pub fn refused_calls_are_counted()
     ensures { RefusedAreCounted }
 {}

@@ -1,5 +1,5 @@
-//! What a run of a script of threads is warned of, in words: a text of its script, its plan and what it
-//! came to.
+//! What a run of a script of threads is warned of, in words: lines that follow from its script, its plan
+//! and what it came to.
 #![tactic(auto)]
 
 pub mod laws;
@@ -8,8 +8,6 @@ mod refused_starts;
 mod short;
 mod short_starts;
 mod unfit;
-mod warnings;
-mod written;
+mod warned;
 
-pub use warnings::{read_plan_saying, warned_text};
-pub use written::write_saying;
+pub use warned::{read_plan_saying, run_warnings};

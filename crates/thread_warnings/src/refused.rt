@@ -3,11 +3,12 @@
 ghost use Rattle.std.specs.Prelude.{◌≡◌, ◌++◌, count_by, OnOk};
 ghost use Rattle.std.specs.List.{find};
 ghost use Rattle.thread_warnings.specs.RefusedCalls.{calls_said, code_said, has_code};
-ghost use Rattle.thread_warnings.specs.RefusedCalls.{refused_said, refused_text, rest_of};
+ghost use Rattle.thread_warnings.specs.RefusedCalls.{refused_lines, refused_said, rest_of};
 
 use node_calls::NodeFault;
 use std::alloc::{AllocError, Global};
 use streams::{cut, first_word};
+use warnings::Warnings;
 
 /// All codes are below this.
 const CODES_END: u8 = 23;
@@ -44,13 +45,12 @@ fn rest_of(text: &str) -> &str
 }
 
 // Says of so many calls with which code and name they were refused, by the text of a fault.
-fn say_calls(alloc: Global, text: &str, calls: usize, said: &mut Vec<u8>) -> Result<(), AllocError>
-    ensures { OnOk result (said.new.items ≡ said.old.items ++ calls_said text.now calls) }
+fn say_calls(alloc: Global, text: &str, calls: usize, said: &mut Warnings) -> Result<(), AllocError>
+    ensures { OnOk result (said.new ≡ said.old ++ calls_said text.now calls) }
 {
     let code = first_word(text);
     let name = first_word(rest_of(text));
-    let text = format!(in alloc; "calls of workers rejected with {code} {name}: {calls}\n")?;
-    said.extend_from_slice(text.as_bytes())
+    said.push_text(format!(in alloc; "calls of workers rejected with {code} {name}: {calls}")?)
 }
 
 // The same by the fault of one of them, if there is one.
@@ -58,9 +58,9 @@ fn say_fault(
     alloc: Global,
     fault: Option<NodeFault>,
     calls: usize,
-    said: &mut Vec<u8>,
+    said: &mut Warnings,
 ) -> Result<(), AllocError>
-    ensures { OnOk result (said.new.items ≡ said.old.items ++ refused_said fault calls) }
+    ensures { OnOk result (said.new ≡ said.old ++ refused_said fault calls) }
 {
     let Some(fault) = fault else {
         return Ok(());
@@ -74,9 +74,9 @@ fn say_code(
     alloc: Global,
     refused: &[NodeFault],
     code: u8,
-    said: &mut Vec<u8>,
+    said: &mut Warnings,
 ) -> Result<(), AllocError>
-    ensures { OnOk result (said.new.items ≡ said.old.items ++ code_said refused.now code) }
+    ensures { OnOk result (said.new ≡ said.old ++ code_said refused.now code) }
 {
     let first = first_with(code, refused);
     say_fault(alloc, first, number_with(code, refused), said)
@@ -87,9 +87,9 @@ fn say_code(
 pub(crate) fn say_refused(
     alloc: Global,
     refused: &[NodeFault],
-    said: &mut Vec<u8>,
+    said: &mut Warnings,
 ) -> Result<(), AllocError>
-    ensures { OnOk result (said.new.items ≡ said.old.items ++ refused_text refused.now) }
+    ensures { OnOk result (said.new ≡ said.old ++ refused_lines refused.now) }
 {
     for code in 0..CODES_END {
         say_code(alloc, refused, code, said)?;

@@ -7,7 +7,8 @@ ghost use Rattle.thread_warnings.specs.RefusedStarts.{start_refused, with_fault}
 use crate::unfit::say_unfit;
 use node_calls::NodeFault;
 use std::alloc::{AllocError, Global};
-use thread_plans::MOST_NAMED;
+use thread_plans::{MOST_NAMED, say_count};
+use warnings::Warnings;
 
 fn held_at(faults: &[Option<NodeFault>], place: usize) -> Option<NodeFault>
     ensures { result ≡ held_at faults.now place }
@@ -49,9 +50,9 @@ fn say_start(
     named: usize,
     number: u32,
     fault: Option<NodeFault>,
-    said: &mut Vec<u8>,
+    said: &mut Warnings,
 ) -> Result<(), AllocError>
-    ensures { OnOk result (said.new.items ≡ said.old.items ++ start_refused named number fault) }
+    ensures { OnOk result (said.new ≡ said.old ++ start_refused named number fault) }
 {
     if named < MOST_NAMED as usize {
         say_unfit(alloc, number, fault, said)
@@ -61,14 +62,13 @@ fn say_start(
 }
 
 // Says how many lines were refused, where not all were named.
-fn say_sum(alloc: Global, named: usize, said: &mut Vec<u8>) -> Result<(), AllocError>
-    ensures { OnOk result (said.new.items ≡ said.old.items ++ refused_sum named) }
+fn say_sum(alloc: Global, named: usize, said: &mut Warnings) -> Result<(), AllocError>
+    ensures { OnOk result (said.new ≡ said.old ++ refused_sum named) }
 {
     if named <= MOST_NAMED as usize {
         return Ok(());
     }
-    let text = format!(in alloc; "rejected start lines: {named}\n")?;
-    said.extend_from_slice(text.as_bytes())
+    say_count(alloc, "rejected start lines: ", named as u128, said)
 }
 
 /// Says of each `start` line whose call was refused why, in the order of the lines, which have these
@@ -78,10 +78,10 @@ pub(crate) fn say_refused_starts(
     alloc: Global,
     numbers: &[u32],
     refused: &[(usize, NodeFault)],
-    said: &mut Vec<u8>,
+    said: &mut Warnings,
 ) -> Result<(), AllocError>
-    ensures { OnOk result (said.new.items
-        ≡ said.old.items ++ refused_starts numbers.now refused.now) }
+    ensures { OnOk result (said.new
+        ≡ said.old ++ refused_starts numbers.now refused.now) }
 {
     let faults = faults_by_place(alloc, numbers.len(), refused)?;
     let mut place = 0usize;

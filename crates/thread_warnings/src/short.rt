@@ -4,12 +4,13 @@ ghost use Rattle.std.specs.Prelude.{◌≡◌, ◌==◌, ◌+◌, ◌++◌, ◌<
 ghost use Rattle.std.specs.Prelude.{OnOk};
 ghost use Rattle.thread_plans.specs.Plans.{block_value, plan_value};
 ghost use Rattle.thread_warnings.specs.Short.{first_place, is_named, line_short, lists_beside, number_at};
-ghost use Rattle.thread_warnings.specs.Short.{receipts_at, short_of, short_said, short_sum, shorts_text};
+ghost use Rattle.thread_warnings.specs.Short.{receipts_at, short_of, short_said, short_sum, shorts_lines};
 ghost use Rattle.thread_warnings.specs.Short.{worker_place};
 
 use node_calls::Receipt;
 use std::alloc::{AllocError, Global};
-use thread_plans::{Block, MOST_NAMED, ThreadPlan, blocks_at};
+use thread_plans::{Block, MOST_NAMED, ThreadPlan, blocks_at, say_count};
+use warnings::Warnings;
 
 fn blocks_below(blocks: &[Block<'_>], node: u8) -> usize
     ensures { result ≡ count_by (λ b. nat_lt b.node node) blocks.now }
@@ -86,11 +87,10 @@ fn is_named(named: usize, short: u64) -> bool
     short > 0 && named < MOST_NAMED as usize
 }
 
-fn say_line(alloc: Global, number: u32, short: u64, said: &mut Vec<u8>) -> Result<(), AllocError>
-    ensures { OnOk result (said.new.items ≡ said.old.items ++ line_short number short) }
+fn say_line(alloc: Global, number: u32, short: u64, said: &mut Warnings) -> Result<(), AllocError>
+    ensures { OnOk result (said.new ≡ said.old ++ line_short number short) }
 {
-    let text = format!(in alloc; "line {number}: calls not accepted: {short}\n")?;
-    said.extend_from_slice(text.as_bytes())
+    said.push_text(format!(in alloc; "line {number}: calls not accepted: {short}")?)
 }
 
 // Says how many calls of a worker weren't accepted, where it is named.
@@ -99,9 +99,9 @@ fn say_short(
     named: usize,
     number: u32,
     short: u64,
-    said: &mut Vec<u8>,
+    said: &mut Warnings,
 ) -> Result<(), AllocError>
-    ensures { OnOk result (said.new.items ≡ said.old.items ++ short_said named number short) }
+    ensures { OnOk result (said.new ≡ said.old ++ short_said named number short) }
 {
     if is_named(named, short) {
         say_line(alloc, number, short, said)
@@ -111,14 +111,13 @@ fn say_short(
 }
 
 // Says how many workers have such calls, where not all were named.
-fn say_sum(alloc: Global, named: usize, said: &mut Vec<u8>) -> Result<(), AllocError>
-    ensures { OnOk result (said.new.items ≡ said.old.items ++ short_sum named) }
+fn say_sum(alloc: Global, named: usize, said: &mut Warnings) -> Result<(), AllocError>
+    ensures { OnOk result (said.new ≡ said.old ++ short_sum named) }
 {
     if named <= MOST_NAMED as usize {
         return Ok(());
     }
-    let text = format!(in alloc; "workers with such calls: {named}\n")?;
-    said.extend_from_slice(text.as_bytes())
+    say_count(alloc, "workers with such calls: ", named as u128, said)
 }
 
 /// Says of each worker of a plan how many of its calls weren't accepted, if any, by the number of the
@@ -128,10 +127,10 @@ pub(crate) fn say_shorts(
     plan: &ThreadPlan<'_>,
     lists: &[Vec<Receipt>],
     numbers: &[u32],
-    said: &mut Vec<u8>,
+    said: &mut Warnings,
 ) -> Result<(), AllocError>
-    ensures { OnOk result (said.new.items ≡ said.old.items
-        ++ shorts_text (plan_value plan.now) lists.now numbers.now) }
+    ensures { OnOk result (said.new ≡ said.old
+        ++ shorts_lines (plan_value plan.now) lists.now numbers.now) }
 {
     let mut before = 0usize;
     let mut named = 0usize;

@@ -7,12 +7,13 @@ ghost use Rattle.thread_plans.specs.Plans.{plan_value, start_line_value};
 ghost use Rattle.thread_warnings.specs.ShortStarts.{counted_in, counted_starts, is_counted};
 ghost use Rattle.thread_warnings.specs.ShortStarts.{is_counted_start, is_shift, is_spread, node_short};
 ghost use Rattle.thread_warnings.specs.ShortStarts.{spreads_at, start_calls, start_receipts, start_said};
-ghost use Rattle.thread_warnings.specs.ShortStarts.{starts_text};
+ghost use Rattle.thread_warnings.specs.ShortStarts.{starts_lines};
 
 use crate::short::first_place;
 use node_calls::{AskRef, Receipt};
 use std::alloc::{AllocError, Global};
 use thread_plans::{Start, StartLine, ThreadPlan};
+use warnings::Warnings;
 
 fn is_spread(start: Start<'_>) -> bool
     ensures { result ≡ is_spread (start_value start.entry) }
@@ -101,11 +102,10 @@ fn start_receipts(plan: &ThreadPlan<'_>, lists: &[Vec<Receipt>], node: u8) -> u6
     }
 }
 
-fn say_node(alloc: Global, node: u8, short: u64, said: &mut Vec<u8>) -> Result<(), AllocError>
-    ensures { OnOk result (said.new.items ≡ said.old.items ++ node_short node short) }
+fn say_node(alloc: Global, node: u8, short: u64, said: &mut Warnings) -> Result<(), AllocError>
+    ensures { OnOk result (said.new ≡ said.old ++ node_short node short) }
 {
-    let text = format!(in alloc; "node {node}: start calls not accepted: {short}\n")?;
-    said.extend_from_slice(text.as_bytes())
+    said.push_text(format!(in alloc; "node {node}: start calls not accepted: {short}")?)
 }
 
 // Says of a node that calls weren't accepted, where there are fewer receipts.
@@ -114,9 +114,9 @@ fn say_start(
     node: u8,
     calls: u64,
     receipts: u64,
-    said: &mut Vec<u8>,
+    said: &mut Warnings,
 ) -> Result<(), AllocError>
-    ensures { OnOk result (said.new.items ≡ said.old.items ++ start_said node calls receipts) }
+    ensures { OnOk result (said.new ≡ said.old ++ start_said node calls receipts) }
 {
     if receipts < calls {
         say_node(alloc, node, calls - receipts, said)
@@ -131,10 +131,10 @@ pub(crate) fn say_starts(
     alloc: Global,
     plan: &ThreadPlan<'_>,
     lists: &[Vec<Receipt>],
-    said: &mut Vec<u8>,
+    said: &mut Warnings,
 ) -> Result<(), AllocError>
-    ensures { OnOk result (said.new.items
-        ≡ said.old.items ++ starts_text (plan_value plan.now) lists.now) }
+    ensures { OnOk result (said.new
+        ≡ said.old ++ starts_lines (plan_value plan.now) lists.now) }
 {
     for node in 0..plan.size.nodes {
         let calls = start_calls(plan, node);

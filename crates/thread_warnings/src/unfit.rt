@@ -7,8 +7,8 @@ ghost use Rattle.actions.specs.SettingReading.{setting_reading};
 ghost use Rattle.node_calls.specs.Told.{ask_ref_told};
 ghost use Rattle.node_steps.specs.Refusals.{bad_actions, bad_setting, no_name};
 ghost use Rattle.refusals.specs.Refusals.{first_fault};
-ghost use Rattle.thread_warnings.specs.Unfit.{is_unset, line_counted, line_said, none_unfit};
-ghost use Rattle.thread_warnings.specs.Unfit.{unfit_said, unfit_sum, unfit_text, unset_in, unset_sum};
+ghost use Rattle.thread_warnings.specs.Unfit.{fault_said, is_unset, line_counted, line_said, none_unfit};
+ghost use Rattle.thread_warnings.specs.Unfit.{unfit_lines, unfit_said, unfit_sum, unset_in, unset_sum};
 ghost use Rattle.thread_warnings.specs.Unfit.{why_refused, why_unfit};
 ghost use Rattle.thread_warnings.specs.Unfits.{unfit_of};
 
@@ -16,7 +16,8 @@ use actions::{ActionFault, Name, NameFault, SettingFault, parse_actions, parse_s
 use node_calls::{AskRef, NodeFault, PassReply, Receipt, Reply, TextFault};
 use std::alloc::{AllocError, Global};
 use streams::MOST_BYTES;
-use thread_plans::{MOST_NAMED, call_in_line};
+use thread_plans::{MOST_NAMED, call_in_line, say_count};
+use warnings::Warnings;
 
 /// Why a call is refused, if it is, or memory is.
 type Why = Result<Option<NodeFault>, AllocError>;
@@ -93,34 +94,45 @@ struct Warning {
     number: u32,
     // How many lines every node refuses.
     unfit: u32,
-    said: Vec<u8>,
+    said: Warnings,
 }
 
-/// Says of a line why its call is refused, if it is.
+// Says of a line why its call is refused.
+fn say_fault(
+    alloc: Global,
+    number: u32,
+    fault: NodeFault,
+    said: &mut Warnings,
+) -> Result<(), AllocError>
+    ensures { OnOk result (said.new ≡ said.old ++ fault_said number fault) }
+{
+    said.push_text(format!(in alloc; "line {number}: refused {fault}")?)
+}
+
+/// The same, if it is.
 pub(crate) fn say_unfit(
     alloc: Global,
     number: u32,
     why: Option<NodeFault>,
-    said: &mut Vec<u8>,
+    said: &mut Warnings,
 ) -> Result<(), AllocError>
-    ensures { OnOk result (said.new.items ≡ said.old.items ++ unfit_said number why) }
+    ensures { OnOk result (said.new ≡ said.old ++ unfit_said number why) }
 {
-    let Some(fault) = why else {
-        return Ok(());
-    };
-    let text = format!(in alloc; "line {number}: refused {fault}\n")?;
-    said.extend_from_slice(text.as_bytes())
+    match why {
+        Some(fault) => say_fault(alloc, number, fault, said),
+        None => Ok(()),
+    }
 }
 
 impl Warning {
     fn new(alloc: Global) -> Warning
         ensures state { unfit_of result ≡ none_unfit }
-        ensures said { result.said.items ≡ [] }
+        ensures said { result.said ≡ [] }
     {
         Warning {
             number: 1,
             unfit: 0,
-            said: Vec::new(alloc),
+            said: Warnings::new(alloc),
         }
     }
 
@@ -128,8 +140,8 @@ impl Warning {
         requires number { self.old.number < 4294967295 }
         requires unfit { self.old.unfit < self.old.number }
         ensures state { OnOk result (unfit_of self.new ≡ line_counted (unfit_of self.old) line.now) }
-        ensures said { OnOk result (self.new.said.items
-            ≡ self.old.said.items ++ line_said (unfit_of self.old) line.now) }
+        ensures said { OnOk result (self.new.said
+            ≡ self.old.said ++ line_said (unfit_of self.old) line.now) }
     {
         let why = why_unfit(alloc, line)?;
         if self.unfit < MOST_NAMED {
@@ -142,23 +154,26 @@ impl Warning {
 
     // Says how many lines every node refuses, where not all were named.
     fn sum_up(&mut self, alloc: Global) -> Result<(), AllocError>
-        ensures { OnOk result (self.new.said.items
-            ≡ self.old.said.items ++ unfit_sum self.old.unfit) }
+        ensures { OnOk result (self.new.said
+            ≡ self.old.said ++ unfit_sum self.old.unfit) }
     {
         if self.unfit <= MOST_NAMED {
             return Ok(());
         }
-        let unfit = self.unfit;
-        let text = format!(in alloc; "rejected lines: {unfit}\n")?;
-        self.said.extend_from_slice(text.as_bytes())
+        say_count(
+            alloc,
+            "rejected lines: ",
+            self.unfit as u128,
+            &mut self.said,
+        )
     }
 }
 
 /// What is said of lines of workers with a call that every node refuses: of 20 at most, and then how many
 /// they are.
-pub(crate) fn unfit_text(alloc: Global, script: &[u8]) -> Result<Vec<u8>, AllocError>
+pub(crate) fn unfit_lines(alloc: Global, script: &[u8]) -> Result<Warnings, AllocError>
     requires { length script.now ≤ MOST_BYTES }
-    ensures { IfOk result (λ said. said.items ≡ unfit_text script.now) }
+    ensures { IfOk result (λ said. said ≡ unfit_lines script.now) }
 {
     let mut warning = Warning::new(alloc);
     for line in script.split(|byte| *byte == b'\n') {
@@ -196,12 +211,16 @@ pub(crate) fn unset_in(lists: &[Vec<Receipt>]) -> u128
 }
 
 /// Says how many passes met a point that isn't set, if one did.
-pub(crate) fn say_unset(alloc: Global, unset: u128, said: &mut Vec<u8>) -> Result<(), AllocError>
-    ensures { OnOk result (said.new.items ≡ said.old.items ++ unset_sum unset) }
+pub(crate) fn say_unset(alloc: Global, unset: u128, said: &mut Warnings) -> Result<(), AllocError>
+    ensures { OnOk result (said.new ≡ said.old ++ unset_sum unset) }
 {
     if unset == 0 {
         return Ok(());
     }
-    let text = format!(in alloc; "evaluations of points that aren't set: {unset}\n")?;
-    said.extend_from_slice(text.as_bytes())
+    say_count(
+        alloc,
+        "evaluations of points that aren't set: ",
+        unset,
+        said,
+    )
 }

@@ -56,7 +56,11 @@ where
     };
     let peers = Peers::new(alloc, config.node, config.nodes, Hearing::Whenever)?;
     let access = Access::of_this_machine();
-    Ok(serve(
-        rt, alloc, runtime, &registry, seat, &peers, access, listener, clients,
-    ))
+    let served = serve(
+        rt, alloc, runtime, &registry, seat, &peers, &access, listener, clients,
+    );
+    Ok(match served {
+        Ok(served) => Ok(served.count()),
+        Err(fault) => Err(fault),
+    })
 }

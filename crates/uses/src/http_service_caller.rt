@@ -56,5 +56,6 @@ where
         return Err(ServeFault::OutOfMemory);
     };
     let access = Access::of_this_machine();
-    serve_all(rt, alloc, runtime, greeter, access, listener, clients)
+    let served = serve_all(rt, alloc, runtime, greeter, &access, listener, clients)?;
+    Ok(served.count())
 }

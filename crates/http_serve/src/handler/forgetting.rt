@@ -5,12 +5,13 @@ ghost use Rattle.http_routes.specs.Asked.{node_request_value};
 ghost use Rattle.http_routes.specs.Replies.{http_value};
 ghost use Rattle.node_registry.specs.Seats.{HasSameCalls};
 ghost use Rattle.http_serve.specs.Forgotten.{HandsOut};
-ghost use Rattle.http_serve.specs.Served.{AnswersRequest, AnswersRequestFrom};
+ghost use Rattle.http_serve.specs.Served.{AnswersRequest, AnswersRequestFrom, ShowsPeers};
 
 use super::NodeReader;
 use crate::node_answers::NodeAnswers;
 use http_routes::{HttpReply, NodeRequest};
 use node_registry::{Label, Piece, Registry, Seat};
+use report_text::PeerRow;
 use std::alloc::{AllocError, Global};
 use std::sync::{Arc, Mutex, Wait};
 
@@ -111,6 +112,8 @@ impl<L: Label> ForgettingHandler<L> {
 impl<L: Label> NodeAnswers for ForgettingHandler<L> {
     ghost answers = { λ _. AnswersRequest L.config L.seed L.keeps L.parts };
 
+    ghost shows = { λ _. ShowsPeers L.config L.seed };
+
     fn reply<R: Wait>(
         &self,
         rt: &R,
@@ -120,5 +123,9 @@ impl<L: Label> NodeAnswers for ForgettingHandler<L> {
     ) -> HttpReply {
         let mut seat = self.seat.lock(rt);
         seat.answer(rt, alloc, &self.reader, request, body)
+    }
+
+    fn status<R: Wait>(&self, rt: &R, alloc: Global, peers: &[PeerRow]) -> HttpReply {
+        self.reader.status(rt, alloc, Some(peers))
     }
 }

@@ -9,6 +9,7 @@ ghost use Rattle.http_routes.specs.Requests as requests;
 ghost use Rattle.part_keeper.specs.Outs.{out_of, seat_of, written_of};
 ghost use Rattle.http_serve.specs.Recorded.{AnswersRecording, IsNotMade, IsNotRecorded, IsServedRecording};
 ghost use Rattle.http_serve.specs.Recorded.{IsServedWriting, IsSpreadWriting, TellsFault};
+ghost use Rattle.http_serve.specs.Served.{ShowsPeers};
 ghost use Rattle.http_serve.specs.Spreads.{spread_of};
 ghost use Rattle.http_serve.specs.declared.handler.recording.TheConstants.{NOT_RECORDED, RECORDING_FAILED};
 
@@ -19,6 +20,7 @@ use http_routes::{HttpReply, NodeRequest, ReplyRoom, WantedRef};
 use node_core::{Ask, AskRef, Reply};
 use node_registry::{Label, Registry};
 use part_keeper::{CallFault, Recorder, Recording};
+use report_text::PeerRow;
 use std::alloc::{AllocError, Global};
 use std::io::Write;
 use std::sync::{Arc, Wait};
@@ -178,6 +180,8 @@ impl<L: Label> RecordingHandler<L> {
 impl<L: Label> NodeAnswers for RecordingHandler<L> {
     ghost answers = { λ _. AnswersRecording L.config L.seed L.keeps L.parts };
 
+    ghost shows = { λ _. ShowsPeers L.config L.seed };
+
     fn reply<R: Wait>(
         &self,
         rt: &R,
@@ -192,10 +196,14 @@ impl<L: Label> NodeAnswers for RecordingHandler<L> {
             WantedRef::Do(ask) => self.call_of(rt, alloc, ask),
             WantedRef::List => self.recorded(rt, alloc, self.reader.list(rt, alloc)),
             WantedRef::Report => self.recorded(rt, alloc, self.reader.report(rt, alloc)),
-            WantedRef::Status => self.recorded(rt, alloc, self.reader.status(rt, alloc)),
+            WantedRef::Status => self.recorded(rt, alloc, self.reader.status(rt, alloc, None)),
             WantedRef::SetSpread { name, text } => self.spread(rt, alloc, name, Some(text)),
             WantedRef::Spread { name } => self.spread(rt, alloc, name, None),
             WantedRef::Refused(fault) => HttpReply::refusal(alloc, fault),
         }
+    }
+
+    fn status<R: Wait>(&self, rt: &R, alloc: Global, peers: &[PeerRow]) -> HttpReply {
+        self.recorded(rt, alloc, self.reader.status(rt, alloc, Some(peers)))
     }
 }

@@ -113,17 +113,20 @@ fn served<
         address: _,
     } = service;
     let access = Access::of_this_machine();
-    let ended = serve(
+    let ended = match serve(
         rt,
         rt.alloc(),
         &mut runtime,
         &registry,
         seat,
         &peers,
-        access,
+        &access,
         listener,
         requests,
-    );
+    ) {
+        Ok(clients) => Ok(clients.count()),
+        Err(fault) => Err(fault),
+    };
     Ok((ended, list(rt, rt.alloc(), &registry)?))
 }
 

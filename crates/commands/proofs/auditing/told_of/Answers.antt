@@ -1,3 +1,4 @@
+use Rattle.std.proofs.Common.{rules}
 use Rattle.commands.proofs.auditing.told_of.Goals as goal
 
 pub returns-clause-told : goal.returns-clause-told
@@ -6,5 +7,5 @@ returns-clause-told c = record {
   judged = c.in_ok-verdict.ensures.audited;
   ended = c.in_ok-verdict.ensures.ended;
   is_yes = c.is_ok.ensures.value;
-  told = c.in_ok-text.ensures;
+  told = search rules;
 }

@@ -1,9 +1,8 @@
 use Rattle.std.proofs.Common.{[], map, sym, ap}
-use Rattle.std.specs.String.{string_bytes}
 use Rattle.std.proofs.lemmas.List.{take_all}
 use Rattle.streams.specs.Watched.{has_failed, inner_of}
 use Rattle.drills.specs.Lines.{receipt, receipt_told}
-use Rattle.drills.proofs.Growing.{both, mapped, none_yet, not_failed, one_line}
+use Rattle.drills.proofs.Growing.{added_line, both, mapped, none_yet, not_failed, ok_so}
 use Rattle.drills.proofs.writer.write_receipts.Goals as goal
 
 pub loop-receipt-init : goal.loop-receipt-init
@@ -16,13 +15,13 @@ loop-receipt-preserved g c =
     c.loop-receipt-test.true c.receipt-item.is in
     let old = contents (inner_of c.args.writer.now) in
     let mid = contents (inner_of c.loop-receipt.writer) in
-    let new = contents (inner_of c.write_line.new.writer) in
+    let new = contents (inner_of c.write_receipt-came.new.out) in
+    let said = ok_so c.write_receipt-came.result c.in_ok-written.ensures.came c.write_receipt-came.ensures in
     record {
       holds = both old mid new _ _ _ c.loop-receipt.invariant.holds
-          (one_line mid new (string_bytes c.in_ok-receipt_text.field-0) (receipt (receipt_told c.receipt-item.result))
-          c.in_ok-receipt_text.ensures c.in_ok-write_line.ensures.ok) more;
-      failed = not_failed c.write_line.result (has_failed c.write_line.new.writer) c.write_line.ensures.write_failed
-          c.in_ok-write_line.was;
+          (added_line mid new (receipt (receipt_told c.receipt-item.result)) said) more;
+      failed = not_failed c.written.result (has_failed c.write_receipt-came.new.out) c.written.ensures.write_failed
+          c.in_ok-written.was;
     }
 
 pub returns-clause-ok : goal.returns-clause-ok

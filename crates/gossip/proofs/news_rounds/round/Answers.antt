@@ -14,10 +14,12 @@ pub returns-clause-round : goal.returns-clause-round
 returns-clause-round g c =
     let heard = c.hear.ensures in
     with_ok c.hear.result
-    (λ moves. news_round c.requires.empty c.in_ok-look_at_all.ensures.looks heard.adds heard.tried moves) heard.moves
+    (λ moves. news_round c.requires.empty c.in_ok-look_at_all.ensures.looks heard.adds heard.tried moves
+    heard.attempts.0 heard.attempts.1) heard.moves
 
 pub returns-clause-broken : goal.returns-clause-broken
 returns-clause-broken g c =
     let heard = c.hear.ensures in
     with_err c.hear.result
-    (λ stops. news_unheard c.requires.empty c.in_ok-look_at_all.ensures.looks heard.adds stops) heard.stops
+    (λ stops. news_unheard c.requires.empty c.in_ok-look_at_all.ensures.looks heard.adds stops
+    heard.attempts.0) heard.stops

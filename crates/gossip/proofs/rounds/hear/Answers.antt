@@ -1,4 +1,4 @@
-use Rattle.std.proofs.Common.{refl, arith}
+use Rattle.std.proofs.Common.{◌∙◌, refl, arith}
 use Rattle.gossip.proofs.StepLemmas.{adds_none, adds_then}
 use Rattle.gossip.proofs.CarryLemmas.{moves_nothing, moves_then, on_err, stops_then}
 use Rattle.gossip.proofs.rounds.hear.Goals as goal
@@ -9,6 +9,7 @@ loop-taken-init g c = record {
   moves = moves_nothing refl refl refl refl refl refl;
   tried = omega arith;
   few = omega arith;
+  same = (refl, refl);
 }
 
 pub returns-in_err-hear_one-clause-adds : goal.returns-in_err-hear_one-clause-adds
@@ -20,6 +21,10 @@ loop-taken-preserved g c = record {
   tried = omega (arith, c.loop-taken.invariant.tried, c.hear_one.ensures.tried);
   few = omega (arith, c.loop-taken.invariant.few, c.hear_one.ensures.few);
   moves = moves_then c.loop-taken.invariant.moves c.in_ok-hear_one.ensures.moves;
+  same = (
+    c.hear_one.ensures.attempts.0 ∙ c.loop-taken.invariant.same.0,
+    c.hear_one.ensures.attempts.1 ∙ c.loop-taken.invariant.same.1,
+  );
 }
 
 pub returns-then-not-branch-clause-adds : goal.returns-then-not-branch-clause-adds

@@ -1,4 +1,4 @@
-use Rattle.std.proofs.Common.{◌≤◌, ◌+◌, []}
+use Rattle.std.proofs.Common.{◌≡◌, ◌≤◌, ◌+◌, []}
 use Rattle.gossip.specs.Reports.{calls_of, tried_of}
 use Rattle.gossip.specs.Steps.{Adds, Moves}
 use Rattle.gossip.proofs.rounds.hear.Given as goal
@@ -12,4 +12,6 @@ invariant-loop-taken g l =
       few : calls_of l.report ≤ calls_of l.initial.report + l._taken;
       moves : Moves config g.L.Label.seed (g.W.Wire.traffic l.initial.wire) (g.W.Wire.traffic l.wire)
           l.initial.report l.report [] [];
+      same : (l.report.attempts ≡ l.initial.report.attempts)
+          × (l.report.failed.items ≡ l.initial.report.failed.items);
     }

@@ -22,6 +22,7 @@ returns-in-Err g c = record {
   adds = adds_none _ _ _ _ _ _ _ refl c.reserve.ensures.items refl refl refl refl refl c.reserve-2.ensures.items;
   tried = omega arith;
   few = omega arith;
+  attempts = (refl, refl);
   moves = moves_nothing c.in-Err.ensures.err c.reserve.ensures.items refl refl refl c.reserve-2.ensures.items;
   stops = tt;
 }

@@ -7,7 +7,7 @@ use Rattle.gossip.proofs.CarryLemmas.{message_refused, message_stops, moves_hear
 use Rattle.node_calls.specs.declared.fault.NodeFault.{NodeFault}
 use Rattle.gossip.specs.declared.failures.Rejected.{Rejected}
 use Rattle.gossip.specs.Refused.{rejection_of}
-use Rattle.gossip.specs.Senders.{sender_of}
+use Rattle.gossip_pace.specs.Senders.{sender_of}
 use Rattle.gossip.proofs.rounds.take_in.Goals as goal
 
 -- of the same sender

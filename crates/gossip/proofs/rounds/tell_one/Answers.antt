@@ -1,6 +1,8 @@
-use Rattle.std.proofs.Common.{◌≡◌, ◌+◌, ◌∷◌, [], ◌∙◌, sym, refl, arith}
+use Rattle.std.proofs.Common.{◌≡◌, ◌+◌, ◌∷◌, [], ◌∙◌, ap, sym, refl, slice_set, Result, arith}
 use Rattle.std.proofs.lemmas.List.{append-nil}
+use Rattle.gossip.specs.Attempts.{attempt_by, why_of}
 use Rattle.gossip.specs.Parts as parts
+use Rattle.gossip.specs.declared.wire.WireError.{WireError}
 use Rattle.gossip.proofs.AskLemmas.{asked_as, emit_brings_none, emit_carries}
 use Rattle.gossip.proofs.StepLemmas.{adds_emit, adds_none, adds_refused}
 use Rattle.gossip.proofs.CarryLemmas.{emit_refused, err_at, more_failed, moves_lost, moves_nothing, moves_sent, none_failed, none_lost, ok_at, on_err, one_failed, one_lost, stops_at_end, stops_at_once}
@@ -40,6 +42,13 @@ returns-in-Err-sent g c =
           (emit_carries _ _ _ _ first) (emit_brings_none _ _ _ first)
           (err_at _ _ c.in-Err-sent.is c.send-sent.ensures.err);
       missed = omega (arith, done.lost, done.refused, lost);
+      why = (
+        tt,
+        done.attempts ∙ ap (λ (s : Result Unit WireError). slice_set c.args.report.now.attempts c.args.to
+            (attempt_by (why_of s))) c.in-Err-sent.is,
+        more_failed _ failed c.reserve-2.ensures.items,
+      );
+      tries = tt;
       stops = tt;
     }
 
@@ -51,16 +60,16 @@ returns-in-Ok-sent-clause-adds g c =
     c.reserve.ensures.items done.receipts done.emitted done.delivered done.ended done.refused (done.noted ∙ told.unnoted)
     done.rejected
 
-pub returns-in_err-refuse-in-Err-clause-adds : goal.returns-in_err-refuse-in-Err-clause-adds
-returns-in_err-refuse-in-Err-clause-adds g c =
-    let refused = c.refuse.ensures in
+pub returns-in_err-refuse_emit-in-Err-clause-adds : goal.returns-in_err-refuse_emit-in-Err-clause-adds
+returns-in_err-refuse_emit-in-Err-clause-adds g c =
+    let refused = c.refuse_emit.ensures in
     adds_refused _ _ _ _ _ _ _ c.in-Err.fault _ c.in-Err.ensures.err (refused.receipts ∙ c.reserve.ensures.items)
     refused.emitted refused.delivered refused.ended refused.counted (refused.noted ∙ c.in-Err.ensures.noted)
     (refused.rejected ∙ sym (append-nil _)) (parts.kept parts.none)
 
-pub returns-in_ok-refuse-in-Err-clause-adds : goal.returns-in_ok-refuse-in-Err-clause-adds
-returns-in_ok-refuse-in-Err-clause-adds g c =
-    let refused = c.refuse.ensures in
+pub returns-in_ok-refuse_emit-in-Err-clause-adds : goal.returns-in_ok-refuse_emit-in-Err-clause-adds
+returns-in_ok-refuse_emit-in-Err-clause-adds g c =
+    let refused = c.refuse_emit.ensures in
     adds_refused _ _ _ _ _ _ _ c.in-Err.fault _ c.in-Err.ensures.err (refused.receipts ∙ c.reserve.ensures.items)
     refused.emitted refused.delivered refused.ended refused.counted (refused.noted ∙ c.in-Err.ensures.noted)
     (refused.rejected ∙ sym (append-nil _)) (parts.kept parts.none)
@@ -97,17 +106,21 @@ returns-in-Ok-sent-clause-moves g c =
     (failed ∙ c.reserve-2.ensures.items) done.rejected (emit_carries _ _ _ _ first) (emit_brings_none _ _ _ first)
     (ok_at _ _ c.in-Ok-sent.is c.send-sent.ensures.ok)
 
-pub returns-in_ok-refuse-in-Err-clause-moves : goal.returns-in_ok-refuse-in-Err-clause-moves
-returns-in_ok-refuse-in-Err-clause-moves g c =
-    let refused = c.refuse.ensures in
-    ok_at _ _ c.in_ok-refuse-in-Err.was
-    (emit_refused _ _ _ _ _ _ c.refuse.result c.args.to c.in-Err.fault refused.memory refused.ok
+pub returns-in_ok-refuse_emit-in-Err-clause-moves : goal.returns-in_ok-refuse_emit-in-Err-clause-moves
+returns-in_ok-refuse_emit-in-Err-clause-moves g c =
+    let refused = c.refuse_emit.ensures in
+    ok_at _ _ c.in_ok-refuse_emit-in-Err.was
+    (emit_refused _ _ _ _ _ _ c.refuse_emit.result c.args.to c.in-Err.fault refused.memory refused.ok
     (refused.receipts ∙ c.reserve.ensures.items) refused.lost (refused.failed ∙ c.reserve-2.ensures.items)
     refused.rejected c.in-Err.ensures.refused refl)
 
-pub returns-in_err-refuse-in-Err-clause-stops : goal.returns-in_err-refuse-in-Err-clause-stops
-returns-in_err-refuse-in-Err-clause-stops g c =
+pub returns-in_err-refuse_emit-in-Err-clause-stops : goal.returns-in_err-refuse_emit-in-Err-clause-stops
+returns-in_err-refuse_emit-in-Err-clause-stops g c =
     on_err _ (stops_at_once (c.args.to ∷ [])
-    (moves_nothing refl (c.refuse.ensures.receipts ∙ c.reserve.ensures.items) c.refuse.ensures.lost
-    (err_at _ _ c.in_err-refuse-in-Err.was c.refuse.ensures.err)
-    (c.refuse.ensures.failed ∙ c.reserve-2.ensures.items) c.refuse.ensures.rejected))
+    (moves_nothing refl (c.refuse_emit.ensures.receipts ∙ c.reserve.ensures.items) c.refuse_emit.ensures.lost
+    (err_at _ _ c.in_err-refuse_emit-in-Err.was c.refuse_emit.ensures.err)
+    (c.refuse_emit.ensures.failed ∙ c.reserve-2.ensures.items) c.refuse_emit.ensures.rejected))
+
+pub returns-in-Err-OutOfMemory-clause-tries : goal.returns-in-Err-OutOfMemory-clause-tries
+returns-in-Err-OutOfMemory-clause-tries g c =
+    ((c.args.to, attempt_by (why_of c.send-sent.result)) ∷ [], c.record_emit.ensures.attempts)

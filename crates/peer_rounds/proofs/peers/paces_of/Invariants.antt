@@ -1,5 +1,6 @@
 use Rattle.std.proofs.Common.{◌≡◌, map}
-use Rattle.peer_rounds.specs.Rounds.{first_pace, told_below}
+use Rattle.gossip_pace.specs.News.{first_pace}
+use Rattle.peer_rounds.specs.Rounds.{told_below}
 use Rattle.peer_rounds.proofs.peers.paces_of.Given as goal
 
 abbrev pub invariant-loop-other : goal.invariant-loop-other

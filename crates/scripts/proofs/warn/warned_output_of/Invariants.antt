@@ -3,7 +3,8 @@ use Rattle.streams.specs.Fields.{lines_of}
 use Rattle.scripts.specs.Faults.{said_by}
 use Rattle.scripts.specs.Script.{text_from}
 use Rattle.scripts.specs.Warned.{warned_of}
-use Rattle.scripts.specs.Warnings.{after_warned, line_warned, told_output, unwarned, warned_sums}
+use Rattle.scripts.specs.Warnings.{after_warned, line_warned, unwarned, warned_sums}
+use Rattle.scripts.specs.Written.{form_output, format_of}
 use Rattle.scripts.proofs.Schedules.{IfRestGoesOn}
 use Rattle.scripts.proofs.warn.warned_output_of.Given as goal
 
@@ -13,9 +14,10 @@ invariant-loop-line l = record {
   counted : l.warning.number ≡ length l.yielded + 1;
   few_bad : l.warning.bad < l.warning.number;
   few_unset : l.warning.unset < l.warning.number;
-  printed : l.printed.items ++ text_from (told_output l.echo) l.world (drop (length l.yielded) (lines_of l.script))
-      ≡ text_from (told_output l.echo) None (lines_of l.script);
-  said : l.warning.said.items
+  format : l.printed.format ≡ format_of l.form;
+  printed : l.printed.bytes ++ text_from (form_output l.form) l.world (drop (length l.yielded) (lines_of l.script))
+      ≡ text_from (form_output l.form) None (lines_of l.script);
+  said : l.warning.said
       ++ said_by line_warned after_warned warned_sums l.world (warned_of l.warning)
       (drop (length l.yielded) (lines_of l.script))
       ≡ said_by line_warned after_warned warned_sums None unwarned (lines_of l.script);

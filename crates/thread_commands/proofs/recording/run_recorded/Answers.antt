@@ -4,7 +4,7 @@ use Rattle.thread_commands.proofs.recording.run_recorded.Goals as goal
 
 pub returns-clause-ok : goal.returns-clause-ok
 returns-clause-ok g c =
-    played _ _ _ _ c.args.script.now (plan_value c.in_ok-plan.plan) c.play_recorded.new.said.items
+    played _ c.args.format c.args.script.now (plan_value c.in_ok-plan.plan) c.play_recorded.new.said
     c.play_recorded.result c.in_ok-plan.ensures.ok c.play_recorded.ensures.ok
 
 pub returns-clause-bad_line : goal.returns-clause-bad_line

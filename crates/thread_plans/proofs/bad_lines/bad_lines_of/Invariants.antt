@@ -10,7 +10,7 @@ abbrev pub invariant-loop-line : goal.invariant-loop-line
 invariant-loop-line l = record {
   counted : l.naming.number ≡ length l.yielded + 1;
   few : l.naming.bad < l.naming.number;
-  said : l.naming.said.items
+  said : l.naming.said
       ++ said_from (line_count l.script + 1) (naming_value l.naming) (drop (length l.yielded) (lines_of l.script))
       ≡ said_from (line_count l.script + 1) none_named (lines_of l.script);
 }

@@ -1,7 +1,7 @@
 use Rattle.std.proofs.Common.{◌≡◌, ◌++◌, arith, subst}
 use Rattle.std.specs.List.{flat_map, range_with_len}
 use Rattle.node_calls.specs.FaultCodes.{codes_end}
-use Rattle.thread_warnings.specs.RefusedCalls.{code_said, refused_text}
+use Rattle.thread_warnings.specs.RefusedCalls.{code_said, refused_lines}
 use Rattle.thread_warnings.proofs.ShortStarts.{one_node}
 use Rattle.thread_warnings.proofs.refused.say_refused.Goals as goal
 
@@ -12,8 +12,8 @@ loop-code-preserved c = record {
 }
 
 pub returns : goal.returns
-unfolding refused_text
+unfolding refused_lines
 returns c =
     let all : c.loop-code.code ≡ codes_end = omega (arith, c.loop-code-test.false, c.loop-code.auto.code-end) in
-    subst (λ n. c.loop-code.said.items ≡ c.args.said.now.items ++ flat_map (code_said c.args.refused.now)
+    subst (λ n. c.loop-code.said ≡ c.args.said.now ++ flat_map (code_said c.args.refused.now)
     (range_with_len 0 n)) all c.loop-code.invariant.said

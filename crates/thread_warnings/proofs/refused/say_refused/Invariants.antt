@@ -5,5 +5,5 @@ use Rattle.thread_warnings.proofs.refused.say_refused.Given as goal
 
 abbrev pub invariant-loop-code : goal.invariant-loop-code
 invariant-loop-code l = record {
-  said : l.said.items ≡ l.initial.said.items ++ flat_map (code_said l.refused) (range_with_len 0 l.code);
+  said : l.said ≡ l.initial.said ++ flat_map (code_said l.refused) (range_with_len 0 l.code);
 }

@@ -21,7 +21,7 @@ loop-number-preserved c =
       counted = omega (arith, was.counted);
       few = no_more _ named place _ _ was.few counted refl;
       said = one_start refused c.args.numbers.now c.loop-number.number-index place named (place + 1)
-          (named + c.from-named.result) _ c.loop-number.said.items c.say_start.new.said.items _
+          (named + c.from-named.result) _ c.loop-number.said c.say_start.new.said _
           c.loop-number-test.true was.said (rw (c.in_ok-say_start.was, is) at c.say_start.ensures) refl counted;
     }
 
@@ -30,5 +30,5 @@ unfolding refused_starts
 returns c =
     let past : length c.args.numbers.now ≤ c.loop-number.number-index = omega (arith, c.loop-number-test.false) in
     on_ok_weaker c.say_sum.result (λ grown. all_starts c.args.refused.now c.args.numbers.now c.loop-number.number-index
-    c.loop-number.place c.loop-number.named c.loop-number.said.items c.say_sum.new.said.items _ past
+    c.loop-number.place c.loop-number.named c.loop-number.said c.say_sum.new.said _ past
     c.loop-number.invariant.said grown) c.say_sum.ensures

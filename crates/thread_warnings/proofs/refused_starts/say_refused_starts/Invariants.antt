@@ -7,6 +7,6 @@ abbrev pub invariant-loop-number : goal.invariant-loop-number
 invariant-loop-number l = record {
   counted : l.place ≡ l.number-index;
   few : l.named ≤ l.place;
-  said : l.said.items ++ refused_from l.refused l.place l.named (drop l.number-index l.numbers)
-      ≡ l.initial.said.items ++ refused_from l.refused 0 0 l.numbers;
+  said : l.said ++ refused_from l.refused l.place l.named (drop l.number-index l.numbers)
+      ≡ l.initial.said ++ refused_from l.refused 0 0 l.numbers;
 }

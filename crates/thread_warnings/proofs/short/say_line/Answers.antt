@@ -1,10 +1,5 @@
-use Rattle.std.proofs.Common.{◌≡◌, ◌∙◌}
-use Rattle.thread_warnings.specs.Short.{line_short}
-use Rattle.thread_warnings.proofs.Shorts.{grown_by}
+use Rattle.thread_plans.proofs.Naming.{pushed}
 use Rattle.thread_warnings.proofs.short.say_line.Goals as goal
 
 pub returns : goal.returns
-returns c =
-    let text : c.as_bytes.result.now ≡ line_short c.args.number c.args.short = c.as_bytes.ensures.value ∙ c.in_ok-text.ensures.ok in
-    grown_by c.extend_from_slice.result c.extend_from_slice.new.self.items c.args.said.now.items c.as_bytes.result.now
-    _ c.extend_from_slice.ensures.items text
+returns c = pushed _ _ _ _ c.push_text.result c.push_text.ensures.ok c.in_ok-format.ensures.ok

@@ -8,8 +8,8 @@ abbrev pub invariant-loop-block : goal.invariant-loop-block
 invariant-loop-block l = record {
   counted : l.before ≡ l.block-index;
   few : l.named ≤ l.before;
-  said : l.said.items ++ shorts_from (plan_value l.plan) l.lists l.numbers l.before l.named
+  said : l.said ++ shorts_from (plan_value l.plan) l.lists l.numbers l.before l.named
       (drop l.block-index (map block_value l.plan.blocks.items))
-      ≡ l.initial.said.items ++ shorts_from (plan_value l.plan) l.lists l.numbers 0 0
+      ≡ l.initial.said ++ shorts_from (plan_value l.plan) l.lists l.numbers 0 0
       (map block_value l.plan.blocks.items);
 }

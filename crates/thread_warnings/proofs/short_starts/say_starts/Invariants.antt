@@ -6,6 +6,6 @@ use Rattle.thread_warnings.proofs.short_starts.say_starts.Given as goal
 
 abbrev pub invariant-loop-node : goal.invariant-loop-node
 invariant-loop-node l = record {
-  said : l.said.items ≡ l.initial.said.items
+  said : l.said ≡ l.initial.said
       ++ flat_map (node_said (plan_value l.plan) l.lists) (range_with_len 0 l.node);
 }

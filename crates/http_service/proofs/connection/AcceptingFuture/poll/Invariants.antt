@@ -6,4 +6,5 @@ use Rattle.http_service.proofs.connection.AcceptingFuture.poll.Given as goal
 abbrev pub invariant-loop : goal.invariant-loop
 invariant-loop g l =
     IfSome l.self.permits.waiting CanAcquire × (l.self.clients.let_in ≤ l.self.wanted) ×
-    (l.self.wanted ≡ l.initial.self.wanted) × Keeps l.fn.cx l.cx
+    (l.self.wanted ≡ l.initial.self.wanted) × (l.self.clients.offer ≡ l.initial.self.clients.offer) ×
+    Keeps l.fn.cx l.cx

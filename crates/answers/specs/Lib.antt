@@ -1,0 +1,9 @@
+pub mod Answers
+pub mod Causes
+pub mod Laws
+pub mod Strings
+pub mod Lines
+pub mod Objects
+pub mod Printing
+pub mod Verdicts
+pub mod Warned

@@ -1,5 +1,0 @@
-use Rattle.http_peers.proofs.Naming.{named}
-use Rattle.http_peers.proofs.laws.code_is_its_own.Goals as goal
-
-pub returns : goal.returns
-returns c = named

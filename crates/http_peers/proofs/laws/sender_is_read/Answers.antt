@@ -1,5 +1,0 @@
-use Rattle.http_peers.proofs.Senders.{sender}
-use Rattle.http_peers.proofs.laws.sender_is_read.Goals as goal
-
-pub returns : goal.returns
-returns c = sender

@@ -1,0 +1,5 @@
+mod Asking
+mod Lasting
+mod Naming
+mod Rows
+mod Senders

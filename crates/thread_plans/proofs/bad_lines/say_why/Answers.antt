@@ -1,0 +1,5 @@
+use Rattle.thread_plans.proofs.Naming.{pushed}
+use Rattle.thread_plans.proofs.bad_lines.say_why.Goals as goal
+
+pub returns : goal.returns
+returns c = pushed _ _ _ _ c.push_text.result c.push_text.ensures.ok c.in_ok-format.ensures.ok
