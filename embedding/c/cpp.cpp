@@ -1,5 +1,5 @@
 // A C++ program: a node in an object that closes it, with the calls of failreg.h.
-#include "failreg.h"
+#include "failreg_point.h"
 
 #include <cstdio>
 #include <cstdlib>
@@ -83,6 +83,15 @@ private:
     failreg node = FAILREG_CLOSED_NODE;
 };
 
+failreg_program program = FAILREG_PROGRAM;
+
+int number()
+{
+    FAILREG_POINT(&program, "number");
+    FAILREG_RETURN(&program, "number", 7);
+    return 0;
+}
+
 void check(bool holds, const char *what)
 {
     if (!holds) {
@@ -112,5 +121,14 @@ int main()
     } catch (const std::runtime_error &error) {
         check(error.what() == std::string("not a name"), "the words of a refusal");
     }
+    const std::uint8_t seed[32] = { 1 };
+    const std::string actions = "1*off->1*return->off";
+    failreg_stamp stamp;
+    must(failreg_open(&program.node, 0, 1, 100, seed));
+    must(failreg_set(failreg_lock(&program), "number", 6, actions.data(), actions.size(), &stamp));
+    failreg_unlock(&program);
+    check(number() == 7 && number() == 0, "a point is one line");
+    failreg_close(failreg_lock(&program));
+    failreg_unlock(&program);
     std::puts("the C++ test passed");
 }

@@ -1,6 +1,6 @@
 /* A node that sends its messages through Redis: each node has a list there, its mailbox, into which the others put
  * messages and from which it takes them. Other brokers work in the same way. The program carries what failreg_emit
- * makes to failreg_deliver; it may lose, delay, duplicate and reorder all of it (docs/how-to/custom-transport.md).
+ * makes to failreg_deliver_at; it may lose, delay, duplicate and reorder all of it (docs/how-to/custom-transport.md).
  *
  *     cc -I embedding embedding/c/over_redis.c embedding/lib/libfailreg.a -lhiredis -lpthread -o over_redis
  *     FAILREG_NODE=1/3 FAILREG_RUN=monday FAILREG_REDIS=127.0.0.1:6379 ./over_redis
@@ -8,8 +8,7 @@
  * A line of standard input is `save 3`, which saves three orders, unless the point `save` loses them, or a request,
  * such as `PUT /fail/save 5*return(disk full)->off`. The page lists the other environment variables: a password, and
  * what TLS needs. */
-#define _POSIX_C_SOURCE 200809L
-#include "failreg.h"
+#include "failreg_point.h"
 
 #include <hiredis/hiredis.h>
 #ifdef WITH_TLS
@@ -27,20 +26,11 @@
 
 enum { MOST_NODES = 32, MOST_MESSAGES = 64, KEPT_SECONDS = 3600, TICK = 50, LONGEST_REST = 5000 };
 
-/* The versions last sent to a peer, and its back-off in milliseconds: the next one, and what is left of the current
- * one. */
-typedef struct peer {
-    uint64_t told_version, told_known;
-    int rest, waits;
-} peer;
-
-static failreg node = FAILREG_CLOSED_NODE;
-/* Guards the node. No thread holds it while it waits for Redis, so no order waits for Redis. */
-static pthread_mutex_t lock = PTHREAD_MUTEX_INITIALIZER;
+/* No thread holds its lock while it waits for Redis, so no order waits for Redis. */
+static failreg_program program = FAILREG_PROGRAM;
 static unsigned number, nodes;
 static const char *address, *run;
 static redisContext *redis;
-static peer peers[MOST_NODES];
 static atomic_bool is_over;
 
 static void stop(const char *why)
@@ -58,11 +48,11 @@ static void must(uint32_t status)
 /* Returns the bytes of failreg_fetch, with a zero after them. The caller frees it. */
 static char *fetched(size_t *length)
 {
-    *length = failreg_fetch(&node, "", 0);
+    *length = failreg_fetch(&program.node, "", 0);
     char *bytes = malloc(*length + 1);
     if (bytes == NULL)
         stop("out of memory");
-    failreg_fetch(&node, bytes, *length);
+    failreg_fetch(&program.node, bytes, *length);
     bytes[*length] = 0;
     return bytes;
 }
@@ -130,9 +120,6 @@ static bool is_connected(void)
         redis = NULL;
         return false;
     }
-    /* Redis may have lost its data: everything is sent again. */
-    for (unsigned to = 0; to < nodes; to++)
-        peers[to].rest = peers[to].waits = 0;
     return password == NULL || is_done(user ? ask("AUTH %s %s", user, password) : ask("AUTH %s", password));
 }
 
@@ -144,16 +131,25 @@ static bool is_put(unsigned to, const char *message, size_t length)
         && is_done(ask("EXPIRE failreg:%s:%u %d", run, to, KEPT_SECONDS));
 }
 
+/* Returns the milliseconds since 1970. */
+static uint64_t now_ms(void)
+{
+    struct timespec now;
+    timespec_get(&now, TIME_UTC);
+    return (uint64_t)now.tv_sec * 1000 + (uint64_t)now.tv_nsec / 1000000;
+}
+
 static void deliver(const char *message, size_t length)
 {
     char fault[128] = "";
     size_t fault_length;
     bool is_news;
-    pthread_mutex_lock(&lock);
-    bool is_refused = failreg_deliver(&node, (const uint8_t *)message, length, &is_news) != FAILREG_OK;
+    failreg *node = failreg_lock(&program);
+    bool is_refused
+        = failreg_deliver_at(node, (const uint8_t *)message, length, now_ms(), &is_news) != FAILREG_OK;
     if (is_refused)
-        must(failreg_fault(&node, fault, sizeof fault - 1, &fault_length));
-    pthread_mutex_unlock(&lock);
+        must(failreg_fault(node, fault, sizeof fault - 1, &fault_length));
+    failreg_unlock(&program);
     if (is_refused)
         fprintf(stderr, "over_redis: a message is refused: %s\n", fault);
 }
@@ -174,33 +170,25 @@ static bool has_taken(void)
     return true;
 }
 
-/* Sends a peer what it lacks. A mailbox also takes messages for a node that is gone: so a peer that hasn't acknowledged
- * the last message is left alone, twice as long each time. */
-static bool has_told(unsigned to)
+/* Sends a peer what it lacks, if that is due. A mailbox also takes messages for a node that is gone: a peer that hasn't
+ * acknowledged the last message is left alone for 2, 4, ... 64 rounds. */
+static bool has_told(uint8_t to)
 {
-    peer *p = &peers[to];
-    uint64_t version, acked, known;
+    uint8_t due;
     size_t length;
     char *message = NULL;
-    p->waits -= p->waits > 0 ? TICK : 0;
-    pthread_mutex_lock(&lock);
-    must(failreg_state_version(&node, &version));
-    must(failreg_acked(&node, (uint8_t)to, &acked));
-    must(failreg_known(&node, (uint8_t)to, &known));
-    bool is_news = version > acked || known != p->told_known;
-    bool has_answered = acked >= p->told_version || known != p->told_known;
-    if (is_news && (has_answered || p->waits <= 0 || is_over) && failreg_emit(&node, (uint8_t)to) == FAILREG_OK)
+    failreg *node = failreg_lock(&program);
+    must(failreg_due(node, to, &due));
+    if (due == FAILREG_DUE_TELL && failreg_emit(node, to) == FAILREG_OK)
         message = fetched(&length);
-    pthread_mutex_unlock(&lock);
+    failreg_unlock(&program);
     if (message == NULL)
         return true;
     bool is_told = is_put(to, message, length);
     free(message);
-    if (is_told) {
-        p->rest = has_answered || p->rest == 0 ? TICK : p->rest * 2;
-        p->rest = p->rest > LONGEST_REST ? LONGEST_REST : p->rest;
-        *p = (peer){ version, known, p->rest, p->rest };
-    }
+    node = failreg_lock(&program);
+    must(is_told ? failreg_told(node, to) : failreg_missed(node, to));
+    failreg_unlock(&program);
     return is_told;
 }
 
@@ -209,10 +197,10 @@ static bool has_carried(void)
 {
     bool is_there = (redis != NULL || is_connected()) && has_taken();
     for (unsigned to = 0; is_there && to < nodes; to++)
-        is_there = to == number || has_told(to);
-    pthread_mutex_lock(&lock);
-    must(failreg_forget(&node));
-    pthread_mutex_unlock(&lock);
+        is_there = has_told((uint8_t)to);
+    failreg *node = failreg_lock(&program);
+    must(failreg_forget(node));
+    failreg_unlock(&program);
     return is_there;
 }
 
@@ -233,36 +221,28 @@ static void *carry(void *unused)
 /* Saves an order, unless the point loses it. */
 static void save(void)
 {
-    bool is_set;
-    failreg_act act;
-    size_t length;
-    char *reason = NULL;
-    pthread_mutex_lock(&lock);
-    if (failreg_is_set(&node, "save", 4, &is_set) == FAILREG_OK && is_set
-        && failreg_pass(&node, "save", 4, &act) == FAILREG_OK && act.outcome == FAILREG_OUTCOME_ACT
-        && act.task == FAILREG_TASK_RETURN)
-        reason = fetched(&length);
-    pthread_mutex_unlock(&lock);
-    if (reason != NULL)
+    char reason[FAILREG_TEXT_ROOM];
+    if (failreg_eval(&program, "save", reason, sizeof reason))
         printf("lost: %s\n", reason);
     else
         puts("saved");
-    free(reason);
 }
 
 /* Handles a request of the HTTP interface at the node. */
 static void request(const char *method, const char *path, const char *body)
 {
-    uint16_t status;
+    failreg_answered answered;
     size_t length;
     char *answer = NULL;
-    pthread_mutex_lock(&lock);
-    uint32_t refusal = failreg_answer(&node, method, strlen(method), path, strlen(path), (const uint8_t *)body,
-                                      strlen(body), &status);
+    failreg *node = failreg_lock(&program);
+    uint32_t refusal = failreg_answer_at(node, method, strlen(method), path, strlen(path), (const uint8_t *)body,
+                                         strlen(body), now_ms(), &answered);
     if (refusal == FAILREG_OK)
         answer = fetched(&length);
-    pthread_mutex_unlock(&lock);
-    printf("%u %s\n", status, answer != NULL ? answer : failreg_strerror(refusal));
+    failreg_hold(&program);
+    failreg_unlock(&program);
+    printf("%u %s\n", answered.status, answer != NULL ? answer : failreg_strerror(refusal));
+    failreg_sent(&program);
     free(answer);
 }
 
@@ -301,7 +281,7 @@ int main(void)
     if (sscanf(from_environment("FAILREG_NODE"), "%u/%u", &number, &nodes) != 2 || number >= nodes
         || nodes > MOST_NODES)
         stop("FAILREG_NODE is as 1/3: a number, and how many nodes there are, 32 at most");
-    must(failreg_open(&node, (uint8_t)number, (uint8_t)nodes, FAILREG_NO_CAP, seed));
+    must(failreg_open(&program.node, (uint8_t)number, (uint8_t)nodes, FAILREG_NO_CAP, seed));
     if (pthread_create(&carrier, NULL, carry, NULL) != 0)
         stop("no thread can be started");
     while (getline(&line, &room, stdin) > 0)
@@ -310,7 +290,7 @@ int main(void)
     pthread_join(carrier, NULL);
     if (redis != NULL)
         redisFree(redis);
-    failreg_close(&node);
+    failreg_close(&program.node);
     free(line);
     return 0;
 }

@@ -1,15 +1,15 @@
 /* A server that saves orders on a disk that fails: the point `disk`. It is a node of one cluster
- * with the processes of server.rs, and works like them, in one thread.
+ * with the processes of server.rs, and works like them, in one thread: so an action `pause` would
+ * wait forever.
  *
- *     cc -I embedding examples/three_servers/server.c embedding/lib/libfailreg.a -o server
+ *     cc -pthread -I embedding examples/three_servers/server.c embedding/lib/libfailreg.a -o server
  *     FAILREG_NODE=2/4 FAILREG_LISTEN=127.0.0.1:7072 FAILREG_PEERS=0:7070,1:7071 ./server 8072
  *
  * `POST /orders` at port 8072 saves an order: 200 and `saved`, or 503 and `lost: disk full`.
- * failreg_answer handles requests at FAILREG_LISTEN, and peers are sent what they lack. The server
+ * failreg_answer_at handles requests at FAILREG_LISTEN, and peers are sent what they lack. The server
  * ends when its standard input does. A client has two seconds, and everybody else waits meanwhile;
  * browser pages aren't kept out. If that matters, put these lines behind a server of yours. */
-#define _POSIX_C_SOURCE 200809L
-#include "failreg.h"
+#include "failreg_point.h"
 
 #include <arpa/inet.h>
 #include <poll.h>
@@ -19,20 +19,14 @@
 #include <string.h>
 #include <sys/socket.h>
 #include <sys/time.h>
+#include <time.h>
 #include <unistd.h>
 
-enum { MOST_NODES = 32, MOST_BYTES = 1 << 20, TICK = 50, LONGEST_REST = 5000 };
+enum { MOST_NODES = 32, MOST_BYTES = 1 << 20, TICK = 50 };
 
-/* A peer: its address, the versions last sent to it, and its back-off in milliseconds. */
-typedef struct peer {
-    uint16_t port;
-    uint64_t told_version, told_known;
-    int rest, waits;
-    bool has_failed;
-} peer;
-
-static failreg node = FAILREG_CLOSED_NODE;
-static peer peers[MOST_NODES];
+static failreg_program program = FAILREG_PROGRAM;
+/* The port of each peer, 0 if it has none. */
+static uint16_t peers[MOST_NODES];
 static unsigned number, nodes;
 
 static void stop(const char *why)
@@ -129,47 +123,49 @@ static void reply(int s, unsigned status, const char *body, size_t length)
 /* Returns the bytes of failreg_fetch. */
 static char *fetched(size_t *length)
 {
-    *length = failreg_fetch(&node, "", 0);
+    *length = failreg_fetch(&program.node, "", 0);
     char *bytes = malloc(*length + 1);
     if (!bytes)
         stop("out of memory");
-    failreg_fetch(&node, bytes, *length);
+    failreg_fetch(&program.node, bytes, *length);
     bytes[*length] = 0;
     return bytes;
+}
+
+/* Returns the milliseconds since 1970. */
+static uint64_t now_ms(void)
+{
+    struct timespec now;
+    timespec_get(&now, TIME_UTC);
+    return (uint64_t)now.tv_sec * 1000 + (uint64_t)now.tv_nsec / 1000000;
 }
 
 /* Handles a request at the node. */
 static void answer(int s, const char *method, const char *path, const char *body, size_t length)
 {
-    uint16_t status;
-    if (failreg_answer(&node, method, strlen(method), path, strlen(path), (const uint8_t *)body,
-                       length, &status) != FAILREG_OK) {
+    failreg_answered answered;
+    if (failreg_answer_at(&program.node, method, strlen(method), path, strlen(path),
+                          (const uint8_t *)body, length, now_ms(), &answered) != FAILREG_OK) {
         reply(s, 400, "", 0);
         return;
     }
     size_t told_length;
     char *told = fetched(&told_length);
-    reply(s, status, told, told_length);
+    reply(s, answered.status, told, told_length);
     free(told);
 }
 
 /* Saves an order, unless the disk fails. */
 static void save(int s)
 {
-    bool is_set;
-    failreg_act act;
-    if (failreg_is_set(&node, "disk", 4, &is_set) != FAILREG_OK || !is_set
-        || failreg_pass(&node, "disk", 4, &act) != FAILREG_OK
-        || act.outcome != FAILREG_OUTCOME_ACT || act.task != FAILREG_TASK_RETURN) {
+    char reason[201], lost[256];
+    if (!failreg_eval(&program, "disk", reason, sizeof reason)) {
         reply(s, 200, "saved", 5);
         return;
     }
-    size_t length;
-    char *reason = fetched(&length), lost[256];
     printf("injected %s\n", reason);
-    int count = snprintf(lost, sizeof lost, "lost: %.200s", reason);
+    int count = snprintf(lost, sizeof lost, "lost: %s", reason);
     reply(s, 503, lost, (size_t)count);
-    free(reason);
 }
 
 /* Accepts a client, and handles its request. */
@@ -198,15 +194,15 @@ static void serve(int listener, bool is_node)
 }
 
 /* Makes a message to a peer, once it is connected, and returns whether the peer accepted it. */
-static bool post(unsigned to)
+static bool post(uint8_t to)
 {
     struct sockaddr_in at;
     char head[128], *message, *reply;
     size_t length, begin;
-    int s = socket_at(peers[to].port, &at);
+    int s = socket_at(peers[to], &at);
     bool is_taken = false;
     if (s < 0 || connect(s, (struct sockaddr *)&at, sizeof at) != 0
-        || failreg_emit(&node, (uint8_t)to) != FAILREG_OK) {
+        || failreg_emit(&program.node, to) != FAILREG_OK) {
         if (s >= 0)
             close(s);
         return false;
@@ -226,28 +222,13 @@ static bool post(unsigned to)
     return is_taken;
 }
 
-/* Sends a peer what it lacks, or leaves it alone: twice as long each time that it isn't reached, or
- * hasn't acknowledged the last message. */
-static void tell(unsigned to)
+/* Sends a peer what it lacks, if that is due. */
+static void tell(uint8_t to)
 {
-    peer *p = &peers[to];
-    uint64_t version, acked, known;
-    must(failreg_state_version(&node, &version));
-    must(failreg_acked(&node, (uint8_t)to, &acked));
-    must(failreg_known(&node, (uint8_t)to, &known));
-    p->waits -= p->waits > 0 ? TICK : 0;
-    bool is_news = version > acked || known != p->told_known;
-    bool is_fresh = version > p->told_version || known != p->told_known;
-    if (!is_news || (p->waits > 0 && (!is_fresh || p->has_failed)))
-        return;
-    p->has_failed = !post(to);
-    if (!p->has_failed) {
-        p->rest = is_fresh ? TICK : p->rest;
-        p->told_version = version;
-        p->told_known = known;
-    }
-    p->rest = p->rest * 2 > LONGEST_REST ? LONGEST_REST : p->rest * 2;
-    p->waits = p->rest;
+    uint8_t due;
+    must(failreg_due(&program.node, to, &due));
+    if (due == FAILREG_DUE_TELL)
+        must(post(to) ? failreg_told(&program.node, to) : failreg_missed(&program.node, to));
 }
 
 static const char *from_environment(const char *name)
@@ -271,9 +252,9 @@ static unsigned open_node(void)
         if (sscanf(rest, "%u:%u", &to, &at) != 2 || to >= nodes)
             stop("expected FAILREG_PEERS such as 0:7070,1:7071");
         if (to != number)
-            peers[to] = (peer){ .port = (uint16_t)at, .rest = TICK };
+            peers[to] = (uint16_t)at;
     }
-    must(failreg_open(&node, (uint8_t)number, (uint8_t)nodes, FAILREG_NO_CAP, seed));
+    must(failreg_open(&program.node, (uint8_t)number, (uint8_t)nodes, FAILREG_NO_CAP, seed));
     return port;
 }
 
@@ -298,9 +279,9 @@ int main(int count, char **words)
             if (looked[i].revents)
                 serve(looked[i].fd, i == 1);
         for (unsigned to = 0; to < nodes; to++)
-            if (peers[to].port)
-                tell(to);
+            if (peers[to])
+                tell((uint8_t)to);
     }
-    failreg_close(&node);
+    failreg_close(&program.node);
     return 0;
 }

@@ -71,6 +71,21 @@ pub struct failreg_act {
     pub has_text: bool,
 }
 
+/// What a request changed, beside its response.
+#[repr(C)]
+#[derive(Debug, Default, Clone, Copy, PartialEq, Eq)]
+pub struct failreg_answered {
+    /// The status of the response.
+    pub status: u16,
+    /// The status of the node's error, such as [`FAILREG_E_NOT_SET`], if the node rejected the request,
+    /// otherwise 0.
+    pub fault: u8,
+    /// Whether points may be set otherwise than before.
+    pub changes_settings: bool,
+    /// Whether calls waited for the message in the request, and no longer wait.
+    pub has_heard_all: bool,
+}
+
 macro_rules! numbers {
     ($all:ident: $type:ty; $($what:literal $name:ident = $value:literal,)+) => {
         $(#[doc = $what] pub const $name: $type = $value;)+
@@ -128,6 +143,15 @@ numbers! { TASKS: u8;
     "Let other threads run." FAILREG_TASK_YIELD = 6,
     "Keep busy for `millis` milliseconds." FAILREG_TASK_DELAY = 7,
 }
+
+numbers! { DUE_KINDS: u8;
+    "Nothing is due for the other node." FAILREG_DUE_NOTHING = 0,
+    "Send it a message." FAILREG_DUE_TELL = 1,
+    "Request a message from it." FAILREG_DUE_ASK = 2,
+}
+
+/// No node: what [`failreg_awaited`] returns if calls don't wait.
+pub const FAILREG_NOBODY: u8 = 255;
 
 /// The version of the declarations: 10000 times its first number, plus 100 times its second, plus
 /// its third.
@@ -379,6 +403,54 @@ unsafe extern "C" {
         body_len: usize,
         status: &mut u16,
     ) -> u32;
+
+    /// Handles an HTTP request as a node of a cluster, at this time in milliseconds since 1970. The body
+    /// of the response is for `failreg_fetch`.
+    ///
+    /// # Safety
+    /// `method`, `path` and `body` lead to as many bytes as the lengths beside them say.
+    pub fn failreg_answer_at(
+        node: &mut failreg,
+        method: Bytes,
+        method_len: usize,
+        path: Bytes,
+        path_len: usize,
+        body: Bytes,
+        body_len: usize,
+        now_ms: u64,
+        answered: &mut failreg_answered,
+    ) -> u32;
+
+    /// Has calls of requests wait until each other node was heard.
+    pub safe fn failreg_hear_first(node: &mut failreg) -> u32;
+
+    /// Returns the first node that calls wait for, or [`FAILREG_NOBODY`].
+    pub safe fn failreg_awaited(node: &mut failreg, peer: &mut u8) -> u32;
+
+    /// `[entry]` Accepts a message, and notes the time for its sender, in milliseconds since 1970.
+    ///
+    /// # Safety
+    /// `message` leads to `message_len` bytes.
+    pub fn failreg_deliver_at(
+        node: &mut failreg,
+        message: Bytes,
+        message_len: usize,
+        now_ms: u64,
+        changed: &mut bool,
+    ) -> u32;
+
+    /// Looks at another node, once in a round. Returns what is due for it.
+    pub safe fn failreg_due(node: &mut failreg, peer: u8, due: &mut u8) -> u32;
+
+    /// Notes that another node accepted the message that was due.
+    pub safe fn failreg_told(node: &mut failreg, peer: u8) -> u32;
+
+    /// Notes that another node wasn't reached, or didn't accept it.
+    pub safe fn failreg_missed(node: &mut failreg, peer: u8) -> u32;
+
+    /// Makes the lines of the accepted calls from this number on, each with its newline, for
+    /// `failreg_fetch`.
+    pub safe fn failreg_part_lines(node: &mut failreg, from: u64) -> u32;
 
     /// Lists the points that are set, for `failreg_fetch`.
     pub safe fn failreg_list(node: &mut failreg) -> u32;

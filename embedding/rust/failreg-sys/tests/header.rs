@@ -1,6 +1,8 @@
 //! The numbers, the calls and the texts of statuses here are exactly those of `failreg.h`.
 
-use failreg_sys::{FAILREG_VERSION, OUTCOMES, STATUSES, TASKS, failreg_version};
+use failreg_sys::{
+    DUE_KINDS, FAILREG_NOBODY, FAILREG_VERSION, OUTCOMES, STATUSES, TASKS, failreg_version,
+};
 use std::collections::BTreeMap;
 
 const HEADER: &str = include_str!("../../../failreg.h");
@@ -28,6 +30,8 @@ fn numbers_are_those_of_the_header() {
     );
     assert_eq!(numbers_of("failreg_outcome"), wide(OUTCOMES));
     assert_eq!(numbers_of("failreg_task"), wide(TASKS));
+    assert_eq!(numbers_of("failreg_due_kind"), wide(DUE_KINDS));
+    assert!(HEADER.contains(&format!("#define FAILREG_NOBODY {FAILREG_NOBODY}\n")));
 }
 
 #[test]

@@ -1,43 +1,33 @@
 //! HTTP requests to a registry, whoever received them.
 
 use crate::error::{Error, ErrorKind};
-use crate::peers::Kind;
-use crate::registry::{Registry, State};
+use crate::heads::MAX_BODY;
+use crate::node::MOST_FETCHED;
+use crate::registry::Registry;
+use crate::state::State;
+use crate::told::Reply;
+use crate::unsent::Sending;
+use std::collections::TryReserveError;
 
-/// The response to an HTTP request.
-#[derive(Clone, Debug, PartialEq, Eq, Hash)]
-pub struct Reply {
-    /// The status: 200 if the request was carried out.
-    pub status: u16,
-    /// The body, a text without a newline; for an error, its reason.
-    pub body: Vec<u8>,
-}
+/// The status of a request whose memory is refused, without a body. Nothing has changed.
+const NO_MEMORY: Reply = Reply {
+    status: 503,
+    body: Vec::new(),
+};
 
-/// How the error text begins if the node has accepted as many calls as its call limit.
-const CAP_REACHED: &[u8] = b"N1 ";
-
-/// Returns the error of a response that rejects a message because others know more about its
-/// receiver than it knows itself.
-pub(crate) fn forgotten_in(status: u16, body: &[u8]) -> Option<Error> {
-    let text = std::str::from_utf8(body).ok()?;
-    let is_told = text.starts_with("N18 ") || text.starts_with("N19 ");
-    (status == 400 && is_told).then(|| Error::new(ErrorKind::Forgotten, text.to_string()))
+// Returns a response that has no body yet, with room for that of any response to a call.
+fn room_for_reply() -> Result<Reply, TryReserveError> {
+    let mut reply = NO_MEMORY;
+    reply.body.try_reserve_exact(MOST_FETCHED)?;
+    Ok(reply)
 }
 
 impl State {
-    // Notes the result of a message, and adds what was received from peers to a status. Returns
-    // whether calls were waiting for the message.
-    fn note_reply(&mut self, kind: Kind, body: &[u8], status: u16, told: &mut Vec<u8>) -> bool {
-        match (kind, status) {
-            (Kind::Delivery, 200) => return self.note(body, None),
-            (Kind::Delivery, _) => {
-                let refusal = std::str::from_utf8(told).unwrap_or_default();
-                return self.note(body, Some(refusal));
-            }
-            (Kind::Status, 200) => self.peers.put_behind(told),
-            (Kind::Status | Kind::Call | Kind::Hello | Kind::Other, _) => {}
-        }
-        false
+    // Makes room for the line of a call that is given this many bytes, and for what its response
+    // needs.
+    fn make_room(&mut self, given: usize) -> Result<(), Error> {
+        self.kept.make_room(given)?;
+        Ok(self.unsent.make_room()?)
     }
 }
 
@@ -73,54 +63,72 @@ impl Registry {
     /// [`RecordingFailed`](crate::ErrorKind::RecordingFailed). A request that the node rejects
     /// returns a [`Reply`], such as 409 and `N6 NotSet`.
     pub fn answer(&self, method: &str, path: &str, body: &[u8]) -> Result<Reply, Error> {
-        let kind = Kind::of(method, path, body.len());
+        self.answer_then(method, path, body, |reply| reply)
+    }
+
+    /// Handles an HTTP request as [`answer`](Registry::answer) does, sends the response by `send`,
+    /// without a lock, and returns what that returns. Points that the request sets act once `send`
+    /// has returned: until then evaluations wait, but at most 1 second from the request on. So the
+    /// client receives the response, even if the action ends the program.
+    ///
+    /// # Errors
+    /// Those of [`answer`](Registry::answer), without a call of `send`.
+    pub fn answer_then<T>(
+        &self,
+        method: &str,
+        path: &str,
+        body: &[u8],
+        send: impl FnOnce(Reply) -> T,
+    ) -> Result<T, Error> {
+        let (reply, sending) = self.answer_sending(method, path, body)?;
+        let sent = send(reply);
+        drop(sending);
+        Ok(sent)
+    }
+
+    /// Handles an HTTP request. If it changed configurations, evaluations wait until what stands
+    /// beside the response is dropped.
+    pub(crate) fn answer_sending(
+        &self,
+        method: &str,
+        path: &str,
+        body: &[u8],
+    ) -> Result<(Reply, Option<Sending<'_>>), Error> {
+        // Before the call, so that one that was made is answered; and below, so that it is recorded.
+        let Ok(mut reply) = room_for_reply() else {
+            return Ok((NO_MEMORY, None));
+        };
         let mut state = self.lock();
-        if let (Kind::Call, Err(error)) = (kind, state.has_heard()) {
-            return Ok(Reply {
-                status: 503,
-                body: error.to_string().into_bytes(),
-            });
-        }
-        if kind == Kind::Hello && !state.node.is_closed() {
-            let (status, told) = state.peers.ask(method, body);
-            return Ok(Reply {
-                status,
-                body: told.as_bytes().to_vec(),
-            });
-        }
         // Waiting lines are written before the response shows their calls.
-        let goes_on = self.flush(&mut state);
-        if method != "GET" {
-            goes_on?;
+        match self.flush(&mut state) {
+            Err(error) if error.kind() == ErrorKind::OutOfMemory => return Ok((NO_MEMORY, None)),
+            flushed if method != "GET" => flushed?,
+            Ok(()) | Err(_) => {}
+        }
+        let may_call = method != "GET" && body.len() <= MAX_BODY;
+        if may_call && state.make_room(body.len()).is_err() {
+            return Ok((NO_MEMORY, None));
         }
         let before = state.node.calls()?;
-        let (status, mut told) = state.node.reply_to(method, path, body)?;
-        let has_begun = state.note_reply(kind, body, status, &mut told);
-        let mut over = Vec::new();
+        let answered = state.node.reply_to(method, path, body, &mut reply.body)?;
+        reply.status = answered.status;
+        state.waits = state.waits && !answered.has_heard_all;
+        let (mut over, mut sending) = (Vec::new(), None);
         if state.node.calls()? > before {
             self.keep(&mut state, |kept, node| kept.keep_since(node, before))?;
-            if changes_settings(path, &told) || has_begun {
+            if answered.changes_settings || answered.has_heard_all {
                 over = self.settings_changed(&mut state);
+                sending = Some(self.sending(&mut state));
             }
-        } else if status == 503 && told.starts_with(CAP_REACHED) && before >= self.made.cap {
+        } else if answered.is_at_cap() && before >= self.made.cap {
             self.end(&mut state);
         }
         drop(state);
         // Without the lock: dropping a closure's captures may call the registry.
         drop(over);
-        if let Some(error) = forgotten_in(status, &told) {
+        if let Some(error) = answered.forgotten(&reply.body) {
             self.meet_forgotten(&error);
         }
-        Ok(Reply { status, body: told })
-    }
-}
-
-// Returns whether an accepted call may have changed which points are set: a transfer, a grant or a
-// message without changes hasn't.
-fn changes_settings(path: &str, told: &[u8]) -> bool {
-    match path.split('/').nth(1) {
-        Some("shift" | "grant") => false,
-        Some("gossip") => told == b"changed",
-        _ => true,
+        Ok((reply, sending))
     }
 }

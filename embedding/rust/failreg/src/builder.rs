@@ -5,7 +5,7 @@ use crate::recorder::Recorder;
 use crate::registry::Registry;
 use crate::serving::{Served, listen, serve_at};
 use std::fmt;
-use std::hash::{BuildHasher, Hasher, RandomState};
+use std::io;
 use std::net::ToSocketAddrs;
 use std::path::{Path, PathBuf};
 use std::sync::Arc;
@@ -365,14 +365,24 @@ impl Builder {
         crate::program::first(|| self.build())
     }
 
-    /// Returns the given seed, or one that differs from run to run.
-    pub(crate) fn seed_of_this_run(&self) -> [u8; 32] {
-        self.seed.unwrap_or_else(|| {
-            let mut seed = [0; 32];
-            for part in seed.chunks_exact_mut(8) {
-                part.copy_from_slice(&RandomState::new().build_hasher().finish().to_le_bytes());
+    /// Judges nodes of which a recording is to be made: all of one cluster, in the order of their
+    /// numbers, each storing receipts.
+    pub(crate) fn judge_cluster<'a>(
+        nodes: impl ExactSizeIterator<Item = &'a Builder>,
+    ) -> io::Result<()> {
+        let not = |text: &str| Err(io::Error::new(io::ErrorKind::InvalidInput, text));
+        let (count, mut has_receipts) = (nodes.len(), true);
+        for (number, made) in nodes.enumerate() {
+            if (number, count) != (made.number.into(), made.nodes.into()) {
+                return not(
+                    "a recording takes all nodes of one cluster, in the order of their numbers",
+                );
             }
-            seed
-        })
+            has_receipts &= matches!(made.recording.0, How::Kept);
+        }
+        match has_receipts {
+            true => Ok(()),
+            false => not("a recording takes nodes that record"),
+        }
     }
 }

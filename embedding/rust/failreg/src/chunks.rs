@@ -1,10 +1,11 @@
 //! Chunked bodies (RFC 9112, section 7.1).
 
-use std::collections::TryReserveError;
+use crate::bodies::Body;
+use crate::lines::{Lines, is_text_byte};
 
-/// The longest line with a chunk's size, and the longest trailer, in bytes.
-const MAX_LINE: usize = 4_096;
-const MAX_BEHIND: usize = 8_192;
+/// The most bytes of all extensions of a body, and of its trailer.
+const MAX_EXTENSIONS: usize = 16_384;
+const MAX_TRAILER: usize = 16_384;
 
 /// Why a body is rejected.
 #[derive(Debug, PartialEq, Eq)]
@@ -17,43 +18,51 @@ pub enum ChunkFault {
     NoMemory,
 }
 
-/// Adds bytes to a body. A failed allocation is an error, so that no client can end the program.
-pub fn extend(body: &mut Vec<u8>, bytes: &[u8]) -> Result<(), TryReserveError> {
-    body.try_reserve(bytes.len())?;
-    body.extend_from_slice(bytes);
-    Ok(())
-}
-
-/// What the next byte belongs to.
+/// What the next byte belongs to. A size is that of the chunk that follows.
+#[derive(Clone, Copy)]
 enum Place {
-    /// The line with a chunk's size.
-    Size,
+    /// The first digit of a size.
+    Start,
+    /// A digit of a size, or what ends it.
+    Size(u64),
+    /// Spaces after a size.
+    Blank(u64),
+    /// An extension.
+    Extension(u64),
+    /// The newline after a size.
+    Newline(u64),
     /// A chunk with this many bytes left.
-    Chunk(usize),
+    Chunk(u64),
     /// The line end after a chunk.
     Behind,
-    /// The trailer, of which this many bytes were read.
-    Fields(usize),
+    BehindCr,
+    /// The trailer.
+    Trailer,
     /// Nothing: the body is complete.
     End,
 }
 
 /// A chunked body, as far as it has arrived.
 pub struct Chunks {
-    body: Vec<u8>,
+    body: Body,
     most: usize,
-    line: Vec<u8>,
     place: Place,
+    /// How many bytes the extensions and the trailer have so far.
+    extensions: usize,
+    trailer: usize,
+    fields: Lines,
 }
 
 impl Chunks {
-    /// Returns an empty body that may grow to this many bytes.
-    pub fn new(most: usize) -> Chunks {
+    /// Returns a body without a byte that may have this many.
+    pub fn new(body: Body, most: usize) -> Chunks {
         Chunks {
-            body: Vec::new(),
+            body,
             most,
-            line: Vec::new(),
-            place: Place::Size,
+            place: Place::Start,
+            extensions: 0,
+            trailer: 0,
+            fields: Lines::of_trailer(),
         }
     }
 
@@ -62,81 +71,91 @@ impl Chunks {
         while let Some((first, rest)) = bytes.split_first() {
             bytes = match self.place {
                 Place::End => break,
-                Place::Chunk(left) => {
-                    let (part, rest) = bytes.split_at(left.min(bytes.len()));
-                    extend(&mut self.body, part).map_err(|_| ChunkFault::NoMemory)?;
-                    self.place = match left - part.len() {
-                        0 => Place::Behind,
-                        left => Place::Chunk(left),
-                    };
-                    rest
-                }
-                Place::Size | Place::Behind | Place::Fields(_) => {
-                    self.take_byte(*first)?;
+                Place::Chunk(left) => self.take_data(bytes, left)?,
+                Place::Trailer => self.take_trailer(bytes)?,
+                place => {
+                    self.place = self.after(place, *first).ok_or(ChunkFault::Bad)?;
                     rest
                 }
             };
         }
-        Ok(match self.place {
-            Place::End => Some(bytes.len()),
-            Place::Size | Place::Chunk(_) | Place::Behind | Place::Fields(_) => None,
-        })
+        Ok(matches!(self.place, Place::End).then_some(bytes.len()))
     }
 
     /// Returns the body, as far as it has arrived.
-    pub fn into_body(self) -> Vec<u8> {
+    pub fn into_body(self) -> Body {
         self.body
     }
 
-    // Adds a byte to a line, which ends with CR LF.
-    fn take_byte(&mut self, byte: u8) -> Result<(), ChunkFault> {
-        self.line.push(byte);
-        if byte != b'\n' {
-            return match self.line.len() < MAX_LINE {
-                true => Ok(()),
-                false => Err(ChunkFault::Bad),
-            };
+    // Adds bytes of a chunk, and returns those after it.
+    fn take_data<'b>(&mut self, bytes: &'b [u8], left: u64) -> Result<&'b [u8], ChunkFault> {
+        let (part, rest) = bytes.split_at(left.min(bytes.len() as u64) as usize);
+        if part.len() > self.most - self.body.len() {
+            return Err(ChunkFault::TooLong);
         }
-        let line = std::mem::take(&mut self.line);
-        let line = line.strip_suffix(b"\r\n").ok_or(ChunkFault::Bad)?;
-        self.place = match self.place {
-            Place::Size => match size_of(line).ok_or(ChunkFault::Bad)? {
-                0 => Place::Fields(0),
-                size if size > self.most - self.body.len() => return Err(ChunkFault::TooLong),
-                size => Place::Chunk(size),
-            },
-            Place::Behind if line.is_empty() => Place::Size,
-            Place::Fields(_) if line.is_empty() => Place::End,
-            Place::Fields(read) if read + line.len() <= MAX_BEHIND => {
-                Place::Fields(read + line.len())
-            }
-            Place::Behind | Place::Fields(_) | Place::Chunk(_) | Place::End => {
-                return Err(ChunkFault::Bad);
-            }
+        self.body.take(part).map_err(|_| ChunkFault::NoMemory)?;
+        self.place = match left - part.len() as u64 {
+            0 => Place::Behind,
+            left => Place::Chunk(left),
         };
-        Ok(())
+        Ok(rest)
+    }
+
+    // Reads bytes of the trailer, and returns those after it.
+    fn take_trailer<'b>(&mut self, bytes: &'b [u8]) -> Result<&'b [u8], ChunkFault> {
+        let taken = self.fields.take(bytes).map_err(|_| ChunkFault::Bad)?;
+        self.trailer += taken;
+        let is_over = self.fields.is_over();
+        if self.trailer > MAX_TRAILER || (self.trailer == MAX_TRAILER && !is_over) {
+            return Err(ChunkFault::Bad);
+        }
+        if is_over {
+            self.place = Place::End;
+        }
+        Ok(&bytes[taken..])
+    }
+
+    // Returns what follows a byte round a chunk.
+    fn after(&mut self, place: Place, byte: u8) -> Option<Place> {
+        match (place, byte) {
+            (Place::Start, _) => digit(byte).map(Place::Size),
+            // A size has 64 bits.
+            (Place::Size(size), _) if byte.is_ascii_hexdigit() => {
+                Some(Place::Size(size.checked_mul(16)? + digit(byte)?))
+            }
+            (Place::Size(size) | Place::Blank(size), b' ' | b'\t') => Some(Place::Blank(size)),
+            (Place::Size(size) | Place::Blank(size), b';') => Some(Place::Extension(size)),
+            (Place::Size(size) | Place::Blank(size) | Place::Extension(size), b'\r') => {
+                Some(Place::Newline(size))
+            }
+            (Place::Extension(_), _) if is_text_byte(byte) => {
+                self.extensions += 1;
+                (self.extensions <= MAX_EXTENSIONS).then_some(place)
+            }
+            (Place::Newline(0), b'\n') => Some(Place::Trailer),
+            (Place::Newline(size), b'\n') => Some(Place::Chunk(size)),
+            (Place::Behind, b'\r') => Some(Place::BehindCr),
+            (Place::BehindCr, b'\n') => Some(Place::Start),
+            _ => None,
+        }
     }
 }
 
-// Returns the size of a chunk, which extensions may follow. A size with more digits than a number
-// has here is invalid.
-fn size_of(line: &[u8]) -> Option<usize> {
-    let digits = line.split(|b| *b == b';').next()?.trim_ascii_end();
-    let is_number = !digits.is_empty() && digits.iter().all(u8::is_ascii_hexdigit);
-    let digits = std::str::from_utf8(digits).ok().filter(|_| is_number)?;
-    usize::from_str_radix(digits, 16).ok()
+fn digit(byte: u8) -> Option<u64> {
+    char::from(byte).to_digit(16).map(u64::from)
 }
 
 #[cfg(test)]
 mod tests {
     use super::*;
+    use crate::bodies::Needed;
 
     // The result for these bytes in pieces of this size.
     fn taken(text: &[u8], piece: usize) -> Result<Option<Vec<u8>>, ChunkFault> {
-        let mut chunks = Chunks::new(10);
+        let mut chunks = Chunks::new(Body::new(Needed::Whole), 10);
         for part in text.chunks(piece) {
             if chunks.take(part)?.is_some() {
-                return Ok(Some(chunks.into_body()));
+                return Ok(Some(chunks.into_body().into_bytes()));
             }
         }
         Ok(None)
@@ -144,6 +163,8 @@ mod tests {
 
     #[test]
     fn a_body_is_put_together_in_whatever_pieces_it_comes() {
+        let zeros = "0".repeat(5_000);
+        let extension = "x".repeat(MAX_EXTENSIONS);
         for (text, body) in [
             ("0\r\n\r\n", ""),
             ("3\r\noff\r\n0\r\n\r\n", "off"),
@@ -156,8 +177,10 @@ mod tests {
                 "0123456789",
             ),
             ("2\r\n\r\n\r\n0\r\n\r\n", "\r\n"),
+            (&format!("{zeros}3\r\noff\r\n{zeros}\t\r\n\r\n"), "off"),
+            (&format!("3;{extension}\r\noff\r\n0\r\n\r\n"), "off"),
         ] {
-            for piece in 1..=text.len() {
+            for piece in (1..=text.len()).step_by(1 + text.len() / 60) {
                 let whole = Ok(Some(body.as_bytes().to_vec()));
                 assert_eq!(taken(text.as_bytes(), piece), whole, "{text:?} by {piece}");
             }
@@ -166,8 +189,8 @@ mod tests {
 
     #[test]
     fn what_is_no_body_is_refused() {
-        let long = format!("{}\r\n", "0".repeat(MAX_LINE));
-        let fields = format!("0\r\n{}", "A: b\r\n".repeat(MAX_BEHIND / 4 + 1));
+        let extension = format!("1;{}\r\n", "x".repeat(MAX_EXTENSIONS + 1));
+        let trailer = format!("0\r\nX: {}\r\n\r\n", "y".repeat(MAX_TRAILER - 6));
         for bad in [
             "\r\n",
             "x\r\n",
@@ -176,11 +199,19 @@ mod tests {
             "0x1\r\n",
             " 1\r\n",
             "1\n",
+            "1\r\r\n",
+            "1\x0c\r\n",
+            "1 1\r\n",
+            "1;\0\r\n",
+            "1;x\ry\r\n",
             "3\r\nof\r\n0\r\n\r\n",
             "2\r\noff\r\n0\r\n\r\n",
             "10000000000000000\r\n",
-            &long,
-            &fields,
+            "0\r\nX\r\n",
+            "0\r\nX : y\r\n",
+            "0\r\n\n",
+            &extension,
+            &trailer,
         ] {
             for piece in [1, bad.len()] {
                 assert_eq!(
@@ -190,14 +221,22 @@ mod tests {
                 );
             }
         }
-        for long in ["b\r\n", "8\r\n01234567\r\n3\r\n", "fffffffffffffff\r\n"] {
+        for long in ["b\r\n01234567890", "8\r\n01234567\r\n3\r\n012"] {
             assert_eq!(
                 taken(long.as_bytes(), 1),
                 Err(ChunkFault::TooLong),
                 "{long:?}"
             );
         }
-        for part in ["", "3\r\noff", "3\r\noff\r\n", "0\r\n", "0\r\nA: b\r\n"] {
+        for part in [
+            "",
+            "3\r\noff",
+            "3\r\noff\r\n",
+            "0\r\n",
+            "0\r\nA: b\r\n",
+            "b\r\n0123456789",
+            "ffffffffffffffff\r\n",
+        ] {
             assert_eq!(taken(part.as_bytes(), 1), Ok(None), "{part:?}");
         }
     }

@@ -1,5 +1,6 @@
 //! The date of a response.
 
+use std::fmt;
 use std::time::{SystemTime, UNIX_EPOCH};
 
 /// The days of the week, from the first of 1970.
@@ -13,17 +14,30 @@ const MONTHS: [&str; 12] = [
 /// How many days there are between 1 March of the year 0 and 1 January 1970.
 const DAYS_TO_1970: u64 = 719_468;
 
-/// Returns a time in the form of `Date`, such as `Sun, 06 Nov 1994 08:49:37 GMT`, if its year is
-/// 1970 to 9999.
-pub(crate) fn date_of(time: SystemTime) -> Option<String> {
+/// A time in the form of `Date`, such as `Sun, 06 Nov 1994 08:49:37 GMT`.
+pub(crate) struct Date {
+    days: u64,
+    second: u64,
+}
+
+/// Returns the date of a time, if its year is 1970 to 9999.
+pub(crate) fn date_of(time: SystemTime) -> Option<Date> {
     let seconds = time.duration_since(UNIX_EPOCH).ok()?.as_secs();
     let (days, second) = (seconds / 86_400, seconds % 86_400);
-    let (year, month, day) = year_month_day(days + DAYS_TO_1970);
-    let (weekday, month) = (DAYS[(days % 7) as usize], MONTHS[month as usize]);
-    let (hour, minute, second) = (second / 3_600, second / 60 % 60, second % 60);
-    (year <= 9_999).then(|| {
-        format!("{weekday}, {day:02} {month} {year:04} {hour:02}:{minute:02}:{second:02} GMT")
-    })
+    let (year, _, _) = year_month_day(days + DAYS_TO_1970);
+    (year <= 9_999).then_some(Date { days, second })
+}
+
+impl fmt::Display for Date {
+    fn fmt(&self, f: &mut fmt::Formatter<'_>) -> fmt::Result {
+        let (year, month, day) = year_month_day(self.days + DAYS_TO_1970);
+        let (weekday, month) = (DAYS[(self.days % 7) as usize], MONTHS[month as usize]);
+        let (hour, minute, second) = (self.second / 3_600, self.second / 60 % 60, self.second % 60);
+        write!(
+            f,
+            "{weekday}, {day:02} {month} {year:04} {hour:02}:{minute:02}:{second:02} GMT"
+        )
+    }
 }
 
 // Returns the year, the month from March on, and the day, this many days after 1 March of the year
@@ -62,13 +76,14 @@ mod tests {
             (253_402_300_799, "Fri, 31 Dec 9999 23:59:59 GMT"),
         ] {
             let time = UNIX_EPOCH + Duration::from_secs(seconds);
-            assert_eq!(date_of(time).as_deref(), Some(date), "{seconds}");
+            let told = date_of(time).map(|date| date.to_string());
+            assert_eq!(told.as_deref(), Some(date), "{seconds}");
         }
         for none in [
             UNIX_EPOCH - Duration::from_secs(1),
             UNIX_EPOCH + Duration::from_secs(253_402_300_800),
         ] {
-            assert_eq!(date_of(none), None);
+            assert!(date_of(none).is_none());
         }
     }
 

@@ -3,7 +3,8 @@
 use crate::builder::Builder;
 use crate::error::{Error, ErrorKind};
 use crate::fail_rs::has_failpoints;
-use crate::gossip::{Gossip, Peer, gossip, others};
+use crate::gossip::{Gossip, gossip, others};
+use crate::peer::Peer;
 use crate::program::first;
 use crate::registry::Registry;
 use crate::serving::{Serving, listen, serve_at};

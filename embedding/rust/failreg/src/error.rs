@@ -1,6 +1,7 @@
 //! Why a call failed.
 
 use std::borrow::Cow;
+use std::collections::TryReserveError;
 use std::fmt;
 use std::path::Path;
 
@@ -170,6 +171,17 @@ impl Error {
         }
     }
 
+    /// Returns the error of a call that was made but couldn't be recorded.
+    pub(crate) fn not_recorded(why: impl fmt::Display) -> Error {
+        let fault = format!("the call was made, but could not be recorded ({why})");
+        Error::new(ErrorKind::NotRecorded, fault)
+    }
+
+    /// Returns the error of a refused allocation.
+    pub(crate) fn no_memory() -> Error {
+        Error::new(ErrorKind::OutOfMemory, "N22 OutOfMemory")
+    }
+
     pub(crate) fn at_point(self, name: &str) -> Error {
         Error {
             at: Some(format!("point {name:?}")),
@@ -224,6 +236,14 @@ impl Error {
     /// Returns the kind of error.
     pub fn kind(&self) -> ErrorKind {
         self.kind
+    }
+
+    /// Returns what failed, as the body of a response.
+    pub(crate) fn into_body(self) -> Cow<'static, [u8]> {
+        match self.fault {
+            Cow::Borrowed(fault) => Cow::Borrowed(fault.as_bytes()),
+            Cow::Owned(fault) => Cow::Owned(fault.into_bytes()),
+        }
     }
 
     /// Returns the error's number in `failreg.h`, if the library returned one: 11 for `N11
@@ -286,6 +306,12 @@ impl fmt::Display for Error {
 impl fmt::Debug for Error {
     fn fmt(&self, f: &mut fmt::Formatter<'_>) -> fmt::Result {
         write!(f, "{self} ({:?})", self.kind)
+    }
+}
+
+impl From<TryReserveError> for Error {
+    fn from(_: TryReserveError) -> Error {
+        Error::no_memory()
     }
 }
 

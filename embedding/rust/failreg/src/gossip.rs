@@ -1,24 +1,24 @@
 //! A registry that gossips with its peers in a thread of its own.
 
-use crate::answers::forgotten_in;
 use crate::error::{Error, ErrorKind};
-use crate::posting;
+use crate::memory::{Fixed, copied, short_text};
+use crate::node::Due;
+use crate::peer::{Failure, Peer, PeerNews};
+use crate::posting::{self, PeerReply};
 use crate::registry::Registry;
-use crate::serving::{has_to_have_failpoints, not_local};
-use std::fmt;
-use std::net::{SocketAddr, TcpStream};
+use crate::serving::not_local;
+use std::borrow::Cow;
+use std::fmt::{self, Write};
+use std::io;
+use std::net::TcpStream;
 use std::ops::Deref;
 use std::sync::atomic::{AtomicBool, Ordering};
-use std::sync::mpsc::{self, Receiver, RecvTimeoutError, Sender};
-use std::sync::{Arc, Mutex, MutexGuard};
+use std::sync::{Arc, Condvar, Mutex, MutexGuard};
 use std::thread::{self, JoinHandle};
 use std::time::{Duration, Instant, SystemTime};
 
 /// How long a peer may take for a message and its response.
 const POST_TIME: Duration = Duration::from_secs(2);
-
-/// The longest back-off for an unreachable peer, unless the interval of rounds is longer.
-const LONGEST_REST: Duration = Duration::from_secs(5);
 
 /// The shortest time between two reports that a peer lost its state.
 const SAID_EVERY: Duration = Duration::from_secs(60);
@@ -26,170 +26,22 @@ const SAID_EVERY: Duration = Duration::from_secs(60);
 /// The shortest interval of rounds.
 const SHORTEST_REST: Duration = Duration::from_millis(1);
 
-/// Another node of the cluster, and the address at which it is served.
-#[derive(Clone, Copy, Debug, PartialEq, Eq, Hash)]
-pub struct Peer {
-    /// The node's number.
-    pub node: u8,
-    /// The node's address: a loopback address, unless there is a key.
-    pub addr: SocketAddr,
-}
+/// When the loss of a peer's state was last reported.
+#[derive(Default)]
+struct Said(Option<Instant>);
 
-impl Peer {
-    /// Returns the peer with this number and address.
-    pub fn new(node: u8, addr: impl Into<SocketAddr>) -> Peer {
-        Peer {
-            node,
-            addr: addr.into(),
-        }
-    }
-}
-
-/// A message that failed.
-#[derive(Clone, Debug, PartialEq, Eq)]
-pub struct Failure {
-    /// When it failed.
-    pub at: SystemTime,
-    /// Why: the error of its socket, the response of the peer, or why there is no message for it.
-    pub what: String,
-}
-
-/// What was sent to a peer.
-#[derive(Clone, Debug, PartialEq, Eq)]
-#[non_exhaustive]
-pub struct PeerNews {
-    /// The peer.
-    pub peer: Peer,
-    /// When it last accepted a message, if it ever did.
-    pub told: Option<SystemTime>,
-    /// How many messages it accepted.
-    pub messages: u64,
-    /// The last failure. It stays after later successes.
-    pub failure: Option<Failure>,
-    /// How many messages failed.
-    pub failures: u64,
-}
-
-/// The versions that decide whether a peer needs a message.
-#[derive(Clone, Copy, Debug, PartialEq, Eq, Default)]
-pub(crate) struct News {
-    /// The node's own version.
-    version: u64,
-    /// The version of the peer that the node has everything of, and that the peer wants
-    /// acknowledged.
-    known: u64,
-    /// Whether the peer requested a message.
-    is_asked: bool,
-}
-
-impl Registry {
-    // Returns whether calls wait for a message from this node.
-    fn awaits(&self, node: u8) -> bool {
-        let state = &*self.lock();
-        state.waits && !state.peers.has_heard(node)
-    }
-
-    // Returns the versions to send to a node that last got `told`, if it lacks something or
-    // requested a message.
-    fn news_for(&self, to: u8, told: News) -> Result<Option<News>, Error> {
-        let state = &mut *self.lock();
-        let news = News {
-            version: state.node.version()?,
-            known: state.node.known(to)?,
-            is_asked: state.peers.has_asked(to),
-        };
-        let is_news = news.version > state.node.acked(to)? || news.known != told.known;
-        Ok((is_news || news.is_asked).then_some(news))
-    }
-}
-
-/// When to send a peer the next message.
-struct Pace {
-    every: Duration,
-    /// The versions that it last accepted.
-    told: News,
-    has_failed: bool,
-    rest: Duration,
-    next: Instant,
-    /// When the loss of the peer's state was last reported.
-    said: Option<Instant>,
-    /// The back-off after the last request for a message, and the time of the next.
-    asking_rest: Duration,
-    next_asking: Instant,
-}
-
-impl Pace {
-    fn new(every: Duration) -> Pace {
-        Pace {
-            every,
-            told: News::default(),
-            has_failed: false,
-            rest: every,
-            next: Instant::now(),
-            said: None,
-            asking_rest: every,
-            next_asking: Instant::now(),
-        }
-    }
-
-    // Changes are sent at once, unless the last message failed. A message that the peer accepted
-    // but didn't acknowledge, for example because it doesn't gossip, is repeated after a back-off.
-    fn is_due(&self, news: News) -> bool {
-        let is_fresh = news.version > self.told.version || news.known != self.told.known;
-        ((is_fresh || news.is_asked) && !self.has_failed) || Instant::now() >= self.next
-    }
-
-    fn has_told(&mut self, news: News) {
-        let told = News {
-            is_asked: false,
-            ..news
-        };
-        let is_fresh = self.has_failed || told != self.told;
-        self.told = told;
-        self.has_failed = false;
-        if is_fresh {
-            self.rest = self.every;
-        }
-        self.rest_longer();
-    }
-
-    fn has_failed(&mut self) {
-        self.has_failed = true;
-        self.rest_longer();
-    }
-
+impl Said {
     // Reports that the peer lost its state, unless that was reported a moment ago.
     fn say_forgotten(&mut self, node: u8, fault: &str) {
-        if self.said.is_some_and(|said| said.elapsed() < SAID_EVERY) {
+        if self.0.is_some_and(|said| said.elapsed() < SAID_EVERY) {
             return;
         }
-        self.said = Some(Instant::now());
+        self.0 = Some(Instant::now());
         eprintln!(
             "failreg: node {node} lost its state (it returned {fault}): it restarted without its journal, or \
              a second process runs under its number. End it, and restart it with its journal, or under a \
              number that was never used."
         );
-    }
-
-    // The back-off doubles each time.
-    fn rest_longer(&mut self) {
-        self.rest = self.longer(self.rest);
-        self.next = Instant::now() + self.rest;
-    }
-
-    fn longer(&self, rest: Duration) -> Duration {
-        (rest * 2).min(LONGEST_REST.max(self.every))
-    }
-
-    // Returns whether to request a message from the peer now rather than later.
-    fn is_asking(&mut self) -> bool {
-        let now = Instant::now();
-        let is_due = now >= self.next_asking;
-        if is_due {
-            self.asking_rest = self.longer(self.asking_rest);
-            self.next_asking = now + self.asking_rest;
-        }
-        is_due
     }
 }
 
@@ -237,7 +89,9 @@ impl PeerNews {
                 self.messages += 1;
             }
             Outcome::Failed(what) => self.fail(at, what),
-            Outcome::Forgotten(_) => self.fail(at, "it answered with status 400".into()),
+            Outcome::Forgotten(_) => {
+                self.fail(at, short_text(format_args!("it answered with status 400")));
+            }
         }
     }
 }
@@ -245,59 +99,84 @@ impl PeerNews {
 // Sends a peer a message, which is made once the peer is reached, because each is an accepted call.
 // An error is the node's own.
 fn post(registry: &Registry, peer: Peer) -> Result<Outcome, Error> {
-    let failed = |error: std::io::Error| Ok(Outcome::Failed(error.to_string()));
+    let failed = |error: io::Error| Ok(Outcome::Failed(short_text(format_args!("{error}"))));
     let end = Instant::now() + POST_TIME;
     let stream = match TcpStream::connect_timeout(&peer.addr, POST_TIME) {
         Ok(stream) => stream,
         Err(error) => return failed(error),
     };
-    // A request from now on is for the next message.
-    registry.lock().peers.has_told(peer.node);
     let message = registry.emit(peer.node)?;
-    let place = (peer.addr, "/gossip");
+    let place = (peer.addr, posting::MESSAGES);
     match posting::post(&stream, place, registry.key.as_ref(), &message, end) {
-        Ok((200, _)) => Ok(Outcome::Told),
-        Ok((status, body)) => Ok(match forgotten_in(status, &body) {
-            Some(error) => Outcome::Forgotten(error.fault().to_string()),
-            None => Outcome::Failed(format!("it answered with status {status}")),
-        }),
+        Ok(reply) => Ok(outcome_of(&reply)),
         Err(error) => failed(error),
+    }
+}
+
+// Returns the error of a response that rejects a message because others know more about its
+// receiver than it knows itself.
+fn forgotten_in(status: u16, body: &[u8]) -> Option<Error> {
+    let text = std::str::from_utf8(body).ok()?;
+    let code = ["N18", "N19"]
+        .into_iter()
+        .find(|code| text.starts_with(code) && text[code.len()..].starts_with(' '))?;
+    let error = |fault| Error::new(ErrorKind::Forgotten, fault);
+    (status == 400).then(|| match copied(text) {
+        Ok(text) => error(Cow::Owned(text)),
+        Err(_) => error(Cow::Borrowed(code)),
+    })
+}
+
+// Returns what a peer's response to a message says.
+fn outcome_of(reply: &PeerReply) -> Outcome {
+    let forgotten = |status| forgotten_in(status, reply.body());
+    match reply.status {
+        Some(200) => Outcome::Told,
+        Some(status) => match forgotten(status) {
+            Some(error) => Outcome::Forgotten(short_text(format_args!("{}", error.fault()))),
+            None => Outcome::Failed(short_text(format_args!("it answered with status {status}"))),
+        },
+        None => Outcome::Failed(short_text(format_args!("no reply of HTTP"))),
     }
 }
 
 // Requests a message that calls wait for: peers send only changes, and may assume that this node
 // has everything. If the peer isn't reached, or doesn't know the request, it is repeated.
-fn ask(registry: &Registry, peer: Peer, pace: &mut Pace) {
-    if !registry.awaits(peer.node) || !pace.is_asking() {
-        return;
-    }
+fn ask(registry: &Registry, peer: Peer) {
     let end = Instant::now() + POST_TIME;
     if let Ok(stream) = TcpStream::connect_timeout(&peer.addr, POST_TIME) {
-        let number = registry.made.number.to_string();
+        let mut number = Fixed::<3>::new();
+        // It has the room.
+        let _ = write!(number, "{}", registry.made.number);
         let place = (peer.addr, "/hello");
         let key = registry.key.as_ref();
-        _ = posting::post(&stream, place, key, number.as_bytes(), end);
+        _ = posting::post(&stream, place, key, number.bytes(), end);
     }
 }
 
-// Sends a peer a message, if it lacks something and its back-off is over. An error is the node's
-// own, and ends gossip if the node can't make messages any more.
-fn tell(registry: &Registry, peer: Peer, pace: &mut Pace) -> Result<Outcome, Error> {
-    let Some(news) = registry.news_for(peer.node, pace.told)? else {
-        return Ok(Outcome::NoNews);
-    };
-    if !pace.is_due(news) {
-        return Ok(Outcome::NoNews);
-    }
+// Sends a peer a message, and notes what came of it. An error is the node's own, and ends gossip if
+// the node can't make messages any more.
+fn tell(registry: &Registry, peer: Peer, said: &mut Said) -> Result<Outcome, Error> {
     let outcome = post(registry, peer);
-    match outcome {
-        Ok(Outcome::Told) => pace.has_told(news),
-        _ => pace.has_failed(),
-    }
+    let is_accepted = matches!(outcome, Ok(Outcome::Told));
+    registry.lock().node.note_sent(peer.node, is_accepted);
     if let Ok(Outcome::Forgotten(fault)) = &outcome {
-        pace.say_forgotten(peer.node, fault);
+        said.say_forgotten(peer.node, fault);
     }
     outcome
+}
+
+// Does what is due for a peer.
+fn visit(registry: &Registry, peer: Peer, said: &mut Said) -> Result<Outcome, Error> {
+    let due = registry.lock().node.due(peer.node)?;
+    match due {
+        Due::Nothing => Ok(Outcome::NoNews),
+        Due::Ask => {
+            ask(registry, peer);
+            Ok(Outcome::NoNews)
+        }
+        Due::Tell => tell(registry, peer, said),
+    }
 }
 
 // Returns whether a node with this error makes no message any more.
@@ -312,13 +191,13 @@ fn is_end(error: &Error) -> bool {
 }
 
 // Visits each peer. Returns whether to continue.
-fn round(registry: &Registry, paces: &mut [Pace], known: &Known) -> bool {
-    for (index, pace) in paces.iter_mut().enumerate() {
+fn round(registry: &Registry, said: &mut [Said], known: &Known) -> bool {
+    for (index, said) in said.iter_mut().enumerate() {
         let peer = shown(known)[index].peer;
-        ask(registry, peer, pace);
-        let outcome = tell(registry, peer, pace);
+        let outcome = visit(registry, peer, said);
         let is_over = outcome.as_ref().is_err_and(is_end);
-        let outcome = outcome.unwrap_or_else(|error| Outcome::Failed(error.to_string()));
+        let failed = |error: Error| Outcome::Failed(short_text(format_args!("{error}")));
+        let outcome = outcome.unwrap_or_else(failed);
         shown(known)[index].take(outcome);
         if is_over {
             return false;
@@ -332,20 +211,39 @@ fn share(registry: &Registry, is_sharing: &AtomicBool) -> bool {
     !is_sharing.load(Ordering::Relaxed) || !registry.share().as_ref().is_err_and(is_end)
 }
 
+/// The end of gossip. Unlike a channel, it takes no memory.
+#[derive(Default)]
+struct End {
+    is_over: Mutex<bool>,
+    changed: Condvar,
+}
+
+impl End {
+    fn tell(&self) {
+        *self
+            .is_over
+            .lock()
+            .unwrap_or_else(|poisoned| poisoned.into_inner()) = true;
+        self.changed.notify_all();
+    }
+
+    // Waits for it this long, and returns whether it has come.
+    fn comes_in(&self, time: Duration) -> bool {
+        let is_over = self.is_over.lock();
+        let is_over = is_over.unwrap_or_else(|poisoned| poisoned.into_inner());
+        let waited = self
+            .changed
+            .wait_timeout_while(is_over, time, |is_over| !*is_over);
+        *waited.unwrap_or_else(|poisoned| poisoned.into_inner()).0
+    }
+}
+
 // Runs rounds until gossip is stopped, or the node makes no message any more.
-fn rounds(
-    registry: &Registry,
-    every: Duration,
-    known: &Known,
-    is_sharing: &AtomicBool,
-    end: &Receiver<()>,
-) {
-    let mut paces: Vec<Pace> = shown(known).iter().map(|_| Pace::new(every)).collect();
+fn rounds(registry: &Registry, every: Duration, known: &Known, is_sharing: &AtomicBool, end: &End) {
+    let mut said: Vec<Said> = shown(known).iter().map(|_| Said::default()).collect();
     // A round's transfers are part of its messages.
-    while share(registry, is_sharing) && round(registry, &mut paces, known) {
-        if end.recv_timeout(every) != Err(RecvTimeoutError::Timeout) {
-            return;
-        }
+    while share(registry, is_sharing) && round(registry, &mut said, known) && !end.comes_in(every)
+    {
     }
 }
 
@@ -355,8 +253,8 @@ pub struct Gossip {
     known: Arc<Known>,
     /// Whether each round first moves spare rights. It orders no memory access.
     is_sharing: Arc<AtomicBool>,
-    /// The thread sleeps by waiting for the sender, and ends when it is dropped.
-    thread: Option<(Sender<()>, JoinHandle<()>)>,
+    /// The thread sleeps by waiting for its end.
+    thread: Option<(Arc<End>, JoinHandle<()>)>,
 }
 
 impl Gossip {
@@ -391,8 +289,7 @@ impl Gossip {
 
     fn end(&mut self) {
         if let Some((end, thread)) = self.thread.take() {
-            // Without a sender the thread ends.
-            drop(end);
+            end.tell();
             drop(thread.join());
         }
     }
@@ -461,8 +358,8 @@ pub(crate) fn others(
 /// acknowledged the node's version, or the node has learned about the peer since its last message.
 /// Then the thread sleeps for `every`, at least a millisecond. An idle cluster sends nothing, and
 /// no message is made for an unreachable peer. A peer that is unreachable, returns a status other
-/// than 200, or accepts a message without acknowledging it, is retried with a back-off that doubles
-/// up to 5 seconds. A peer that hangs delays a round by 2 seconds. Gossip ends with the node: when
+/// than 200, or accepts a message without acknowledging it, is retried after 2, 4, ... 64 rounds, and
+/// at once if there are changes and it accepted the last message. A peer that hangs delays a round by 2 seconds. Gossip ends with the node: when
 /// it is closed, or has reached its call limit. A peer that requests a message, because it [waits
 /// for one](crate::Builder::hear_first), gets one without changes, too.
 ///
@@ -476,12 +373,12 @@ pub fn gossip(
     peers: &[Peer],
     every: Duration,
 ) -> Result<Gossip, Error> {
-    has_to_have_failpoints()?;
     let (made, has_key) = (&registry.made, registry.key.is_some());
     let others = others(peers, made.number, made.nodes, has_key)?;
     let known: Known = Mutex::new(others.into_iter().map(PeerNews::new).collect());
     let (known, every) = (Arc::new(known), every.max(SHORTEST_REST));
-    let (sender, end) = mpsc::channel();
+    let end = Arc::new(End::default());
+    let told = end.clone();
     let is_sharing = Arc::new(AtomicBool::new(false));
     let (its, shares) = (known.clone(), is_sharing.clone());
     let thread = thread::Builder::new()
@@ -491,48 +388,41 @@ pub fn gossip(
     Ok(Gossip {
         known,
         is_sharing,
-        thread: Some((sender, thread)),
+        thread: Some((told, thread)),
     })
 }
 
 #[cfg(test)]
 mod tests {
     use super::*;
+    use crate::node::Node;
+    use std::net::SocketAddr;
 
-    fn news(version: u64, known: u64) -> News {
-        News {
-            version,
-            known,
-            is_asked: false,
-        }
+    // Returns after how many rounds something is due again for node 1.
+    fn rounds_until_due(node: &mut Node) -> u32 {
+        let idle = (1..).find(|_| node.due(1).unwrap() != Due::Nothing);
+        idle.unwrap()
     }
 
     #[test]
     fn a_peer_that_fails_is_left_alone_for_longer_each_time() {
-        let mut pace = Pace::new(Duration::from_millis(100));
-        assert!(pace.is_due(news(1, 0)));
+        let mut node = Node::open(0, 2, 1000, &[0; 32]).unwrap();
+        assert_eq!(node.due(1), Ok(Due::Nothing));
+        node.set("p", "off").unwrap();
+        assert_eq!(node.due(1), Ok(Due::Tell));
         let mut rests = Vec::new();
-        for _ in 0..8 {
-            pace.has_failed();
-            assert!(!pace.is_due(news(9, 9)), "news don't shorten it");
-            rests.push(pace.rest.as_millis());
+        for _ in 0..7 {
+            node.note_sent(1, false);
+            node.set("p", "off").unwrap();
+            rests.push(rounds_until_due(&mut node) - 1);
         }
-        assert_eq!(rests, [200, 400, 800, 1600, 3200, 5000, 5000, 5000]);
-        pace.has_told(news(2, 0));
-        assert_eq!(pace.rest.as_millis(), 200);
+        assert_eq!(rests, [2, 4, 8, 16, 32, 64, 64], "news don't shorten it");
+        node.note_sent(1, true);
         // Changes are sent at once then; a repetition waits for the back-off.
-        assert!(pace.is_due(news(3, 0)) && pace.is_due(news(2, 1)));
-        assert!(!pace.is_due(news(2, 0)));
-        let asked = News {
-            is_asked: true,
-            ..news(2, 0)
-        };
-        assert!(pace.is_due(asked));
-        pace.has_told(news(2, 0));
-        assert_eq!(pace.rest.as_millis(), 400);
-        let mut slow = Pace::new(Duration::from_secs(60));
-        slow.has_failed();
-        assert_eq!(slow.rest.as_secs(), 60);
+        assert_eq!(rounds_until_due(&mut node), 3);
+        node.note_sent(1, true);
+        node.set("p", "off").unwrap();
+        assert_eq!(node.due(1), Ok(Due::Tell));
     }
 
     #[test]

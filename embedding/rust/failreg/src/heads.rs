@@ -1,13 +1,16 @@
 //! Heads of requests: their fields, and the checks of access.
 
-use crate::key::Key;
-use crate::tags::{is_in, tag_of};
+use crate::access::{is_own_page, is_this_machine};
+use crate::digest::{agrees, code_of, digest_of};
+use crate::key::{Key, is_same};
+use crate::lines::{Target, elements, is_token, trimmed};
+use crate::posting::MESSAGES;
+use crate::tags::{Tag, is_in, tag_of};
 use std::io;
-use std::net::{Ipv4Addr, Ipv6Addr, SocketAddr};
+use std::net::SocketAddr;
 
-/// The longest head, in bytes, and the most fields in it.
-pub(crate) const MAX_HEAD: usize = 8_192;
-const MAX_FIELDS: usize = 100;
+/// The longest head, in bytes.
+pub(crate) const MAX_HEAD: usize = 65_536;
 
 /// The longest body, in bytes: that of the longest message.
 pub(crate) const MAX_BODY: usize = 67_108_864;
@@ -17,6 +20,8 @@ pub(crate) const MAX_BODY: usize = 67_108_864;
 pub enum Fault {
     /// It gets this response.
     Reply(u16, &'static str),
+    /// Its path has only these methods.
+    OtherMethod(&'static str),
     /// The client is gone or too slow.
     Gone,
 }
@@ -27,10 +32,11 @@ impl From<io::Error> for Fault {
     }
 }
 
-/// An allocation for the body failed. The response takes none.
+/// A message isn't as it was sent.
+pub(crate) const BAD_DIGEST: Fault = Fault::Reply(400, "bad digest");
+/// An allocation for the request failed. The response takes none.
 pub(crate) const NO_MEMORY: Fault = Fault::Reply(503, "");
-pub(crate) const BAD_LINE: Fault =
-    Fault::Reply(400, "bad request line: send it as GET /fail HTTP/1.1");
+const BAD_LINE: Fault = Fault::Reply(400, "bad request line: send it as GET /fail HTTP/1.1");
 const BAD_FIELD: Fault = Fault::Reply(400, "bad field: send each as Name: value, ended by CR LF");
 const BAD_LENGTH: Fault = Fault::Reply(400, "bad Content-Length: send one, of digits alone");
 const NO_KEY: Fault = Fault::Reply(
@@ -38,7 +44,6 @@ const NO_KEY: Fault = Fault::Reply(
     "missing or wrong key: send Authorization: Bearer and the key in hex",
 );
 const BAD_HOST: Fault = Fault::Reply(400, "bad Host: send one");
-const BARE_NEWLINE: Fault = Fault::Reply(400, "bad newline: end each line by CR LF");
 const FOREIGN_HOST: Fault = Fault::Reply(
     403,
     "the Host header names another machine: use localhost, 127.0.0.1 or [::1]",
@@ -52,14 +57,12 @@ const BAD_CODING: Fault = Fault::Reply(
     "bad Transfer-Encoding: send Content-Length, or chunks alone",
 );
 pub(crate) const LONG_TARGET: Fault =
-    Fault::Reply(414, "too long a path: a head has 8192 bytes at most");
+    Fault::Reply(414, "too long a path: a head has 65536 bytes at most");
 const OTHER_CODING: Fault = Fault::Reply(
     501,
     "unsupported Transfer-Encoding: send Content-Length or only chunked",
 );
-const MANY_FIELDS: Fault = Fault::Reply(431, "too many fields: send at most 100");
-const NO_EXPECTATION: Fault = Fault::Reply(417, "unknown Expect: send 100-continue, or none");
-pub(crate) const LONG_HEAD: Fault = Fault::Reply(431, "too long a head: send at most 8192 bytes");
+pub(crate) const LONG_HEAD: Fault = Fault::Reply(431, "too long a head: send at most 65536 bytes");
 
 /// How a body is sent.
 #[derive(Clone, Copy, Debug, PartialEq, Eq)]
@@ -70,21 +73,21 @@ pub enum Length {
     Chunks,
 }
 
-/// The head of a request.
+/// The head of a request, which lies in the bytes that were read.
 #[derive(Debug, PartialEq, Eq)]
-pub struct Head {
-    pub method: String,
+pub struct Head<'h> {
+    pub method: &'h str,
     /// The path, without a `?` and what follows it.
-    pub path: String,
+    pub path: &'h str,
     pub length: Length,
     pub is_expecting: bool,
-    /// Each `If-None-Match`: tags of bodies that the client has.
-    none_match: Vec<Vec<u8>>,
+    /// The fields, one per line.
+    fields: &'h [u8],
     /// Whether the request is HTTP/1.0.
     is_old: bool,
 }
 
-impl Head {
+impl Head<'_> {
     /// Returns whether the body may be longer than this.
     pub fn may_exceed(&self, bytes: usize) -> bool {
         match self.length {
@@ -95,24 +98,54 @@ impl Head {
 
     /// Returns the response to a body that is longer than any request's may be.
     pub fn too_long(&self) -> Fault {
-        match methods_at(&self.path) {
+        match methods_at(self.path) {
             None => Fault::Reply(404, "not found"),
             Some(methods) if methods.split(", ").any(|it| it == self.method) => {
                 Fault::Reply(413, "too long")
             }
-            Some(_) => Fault::Reply(405, "bad method"),
+            Some(methods) => Fault::OtherMethod(methods),
         }
     }
 
     /// Returns the tag of a response with this status, if it has one: clients poll the node's
     /// status, which mostly stays the same.
-    pub fn tag_of(&self, status: u16, body: &[u8]) -> Option<String> {
+    pub fn tag_of(&self, status: u16, body: &[u8]) -> Option<Tag> {
         (self.path == "/status" && status == 200).then(|| tag_of(body))
     }
 
     /// Returns whether the client has the body with this tag.
-    pub fn has(&self, tag: &str) -> bool {
-        self.none_match.iter().any(|list| is_in(tag, list))
+    pub fn has(&self, tag: &Tag) -> bool {
+        fields(self.fields).any(|field| {
+            field
+                .is_some_and(|(name, value)| name == Name::IfNoneMatch && is_in(tag.bytes(), value))
+        })
+    }
+
+    /// Returns whether this is a message of another node.
+    pub fn is_message(&self) -> bool {
+        (self.method, self.path) == ("POST", MESSAGES)
+    }
+
+    /// Returns whether a body is as it was sent, by the digests in the head. With a key the head has
+    /// to have the body's authentication code.
+    pub fn is_intact(&self, key: Option<&Key>, body: &[u8]) -> bool {
+        let values = |wanted| {
+            let all = fields(self.fields).flatten();
+            all.filter_map(move |(name, value)| (name == wanted).then_some(value))
+        };
+        let mut digests = values(Name::ContentDigest).peekable();
+        if digests.peek().is_some() {
+            let digest = digest_of(body);
+            if !digests.all(|value| agrees(value, digest.bytes())) {
+                return false;
+            }
+        }
+        let mut codes = values(Name::FailregMac);
+        match (key, codes.next(), codes.next()) {
+            (None, _, _) => true,
+            (Some(key), Some(code), None) => is_same(code, code_of(key, body).bytes()),
+            (Some(_), _, _) => false,
+        }
     }
 
     /// Returns the HTTP version of the response.
@@ -126,14 +159,18 @@ impl Head {
 
 /// Returns the methods of a path, if the path exists.
 pub(crate) fn methods_at(path: &str) -> Option<&'static str> {
-    if path == "/" {
+    if matches!(path, "/" | "/fail/") {
         return Some("GET");
     }
-    let parts: Vec<&str> = path.strip_prefix('/')?.split('/').collect();
-    if parts.contains(&"") {
-        return None;
+    let (mut parts, mut count) = ([""; 5], 0);
+    for part in path.strip_prefix('/')?.split('/') {
+        if part.is_empty() {
+            return None;
+        }
+        *parts.get_mut(count)? = part;
+        count += 1;
     }
-    match parts[..] {
+    match parts[..count] {
         ["fail"] | ["report"] | ["status"] => Some("GET"),
         ["fail", _] => Some("PUT, DELETE"),
         ["spread", _] => Some("PUT, POST"),
@@ -144,29 +181,59 @@ pub(crate) fn methods_at(path: &str) -> Option<&'static str> {
     }
 }
 
-fn is_token(bytes: &[u8]) -> bool {
-    let is_part = |b: &u8| b.is_ascii_alphanumeric() || b"!#$%&'*+-.^_`|~".contains(b);
-    !bytes.is_empty() && bytes.iter().all(is_part)
-}
-
-// Returns the method, the path and the version of a line such as `PUT /fail/a HTTP/1.1`.
-fn request_line(line: &[u8]) -> Option<(&str, &str, &str)> {
+// Returns the method, the target and the version of a line such as `PUT /fail/a HTTP/1.1`.
+fn request_line(line: &[u8]) -> Option<(&str, Target<'_>, &str)> {
     let (method, rest) = std::str::from_utf8(line).ok()?.split_once(' ')?;
     let (target, version) = rest.split_once(' ')?;
-    // CONNECT takes a name, which is no path here.
-    let is_path = target.starts_with('/') || method == "CONNECT";
-    let is_target = is_path && target.bytes().all(|b| b.is_ascii_graphic());
-    let is_version = version == "HTTP/1.1" || version == "HTTP/1.0";
-    let path = target.split('?').next()?;
-    (is_token(method.as_bytes()) && is_target && is_version).then_some((method, path, version))
+    Some((method, Target::of(target)?, version))
 }
 
-fn field(line: &[u8]) -> Option<(String, &[u8])> {
+/// The names of fields, as far as they matter.
+#[derive(Clone, Copy, Debug, PartialEq, Eq)]
+enum Name {
+    Authorization,
+    ContentDigest,
+    ContentLength,
+    Expect,
+    FailregMac,
+    Host,
+    IfNoneMatch,
+    Origin,
+    TransferEncoding,
+    Other,
+}
+
+const NAMES: [(&[u8], Name); 9] = [
+    (b"authorization", Name::Authorization),
+    (b"content-digest", Name::ContentDigest),
+    (b"content-length", Name::ContentLength),
+    (b"expect", Name::Expect),
+    (b"failreg-mac", Name::FailregMac),
+    (b"host", Name::Host),
+    (b"if-none-match", Name::IfNoneMatch),
+    (b"origin", Name::Origin),
+    (b"transfer-encoding", Name::TransferEncoding),
+];
+
+impl Name {
+    fn of(name: &[u8]) -> Name {
+        let known = NAMES.iter().find(|it| it.0.eq_ignore_ascii_case(name));
+        known.map_or(Name::Other, |it| it.1)
+    }
+}
+
+fn field(line: &[u8]) -> Option<(Name, &[u8])> {
     let colon = line.iter().position(|b| *b == b':')?;
-    let (name, value) = (&line[..colon], line[colon + 1..].trim_ascii());
-    let is_text = |b: &u8| *b == b'\t' || (*b >= b' ' && *b != 0x7f);
-    (is_token(name) && value.iter().all(is_text))
-        .then(|| (String::from_utf8_lossy(name).to_ascii_lowercase(), value))
+    Some((Name::of(&line[..colon]), trimmed(&line[colon + 1..])))
+}
+
+// Returns the fields of these lines: `None` for a line without a colon.
+fn fields(lines: &[u8]) -> impl Iterator<Item = Option<(Name, &[u8])>> + Clone {
+    let lines = lines.split_inclusive(|b| *b == b'\n');
+    lines.map(|line| {
+        let line = line.strip_suffix(b"\n").unwrap_or(line);
+        field(line.strip_suffix(b"\r").unwrap_or(line))
+    })
 }
 
 // Returns a 64-bit length.
@@ -176,186 +243,170 @@ fn length_of(value: &[u8]) -> Option<u64> {
     digits.parse().ok()
 }
 
-// Returns whether a `Host` is this machine, with or without a port. A page with a domain name of
-// its own for this machine's address sends that name.
-fn is_this_machine(host: &[u8]) -> bool {
-    let Ok(host) = std::str::from_utf8(host) else {
-        return false;
-    };
-    let (is_name, port) = match host.strip_prefix('[') {
-        Some(rest) => match rest.split_once(']') {
-            Some((ip, port)) => (
-                ip.parse::<Ipv6Addr>().is_ok_and(|ip| ip.is_loopback()),
-                port,
-            ),
-            None => return false,
-        },
-        None => {
-            let (name, port) = host.split_at(host.find(':').unwrap_or(host.len()));
-            let is_ip = name.parse::<Ipv4Addr>().is_ok_and(|ip| ip.is_loopback());
-            (is_ip || name.eq_ignore_ascii_case("localhost"), port)
+/// What the fields `Transfer-Encoding` of a head come to.
+#[derive(Clone, Copy, Debug, Default, PartialEq, Eq)]
+enum Coding {
+    #[default]
+    None,
+    /// Chunks are the last coding.
+    Chunks,
+    Other,
+    /// The last element of the list is empty: another one has to follow.
+    Blank,
+    Bad,
+}
+
+impl Coding {
+    fn and(self, element: &[u8]) -> Coding {
+        match self {
+            // The end of the body would be unknown, or it would be in chunks twice.
+            Coding::Chunks | Coding::Bad => Coding::Bad,
+            _ if element.eq_ignore_ascii_case(b"chunked") => Coding::Chunks,
+            _ if is_token(element) => Coding::Other,
+            _ if element.is_empty() => Coding::Blank,
+            _ => Coding::Bad,
         }
-    };
-    let is_port =
-        |port: &str| port.bytes().all(|b| b.is_ascii_digit()) && port.parse::<u16>().is_ok();
-    is_name && (port.is_empty() || port.strip_prefix(':').is_some_and(is_port))
-}
-
-fn is_served(origin: &[u8], addr: SocketAddr) -> bool {
-    origin == format!("http://{addr}").as_bytes()
-}
-
-// Returns whether an `Origin` is a page of this host, as a browser or a TLS proxy names it.
-fn is_of_host(origin: &[u8], host: &[u8]) -> bool {
-    [&b"http://"[..], b"https://"]
-        .iter()
-        .any(|scheme| origin.strip_prefix(*scheme) == Some(host))
+    }
 }
 
 /// The fields of a head.
 #[derive(Default)]
-struct Fields {
+struct Fields<'h> {
     length: Option<u64>,
-    /// The codings of the body, in the order in which they were applied.
-    codings: Vec<String>,
-    host: Option<Vec<u8>>,
-    /// Each `Origin` that isn't the address at which the node is served.
-    origins: Vec<Vec<u8>>,
+    coding: Coding,
+    /// How many codings the body has.
+    codings: usize,
+    host: Option<&'h [u8]>,
     is_expecting: bool,
-    none_match: Vec<Vec<u8>>,
-    /// Whether a key decides about access, rather than the machine's name.
-    is_keyed: bool,
-    /// How many credentials the request has, and whether all have the key.
+    /// How many credentials the request has, and whether one lacks the key.
     credentials: usize,
-    has_key: bool,
+    lacks_key: bool,
 }
 
-impl Fields {
-    fn of(key: Option<&Key>) -> Fields {
-        Fields {
-            is_keyed: key.is_some(),
-            has_key: true,
-            ..Fields::default()
+impl<'h> Fields<'h> {
+    // Reads the fields of a head, one per line.
+    fn of(lines: &'h [u8], key: Option<&Key>) -> Result<Fields<'h>, Fault> {
+        let mut all = Fields::default();
+        for field in fields(lines) {
+            let (name, value) = field.ok_or(BAD_FIELD)?;
+            all.take(name, value, key)?;
         }
+        Ok(all)
     }
 
-    // Adds credentials.
-    fn take_credentials(&mut self, value: &[u8], key: Option<&Key>) {
-        self.credentials += 1;
-        self.has_key &= key.is_some_and(|key| key.is_in(value));
-    }
-
-    // Rejects a request without exactly one credential with the key, if there is a key.
-    fn let_in(&self) -> Result<(), Fault> {
-        match self.is_keyed && !(self.has_key && self.credentials == 1) {
-            true => Err(NO_KEY),
-            false => Ok(()),
-        }
-    }
-
-    fn take(&mut self, name: &str, value: &[u8], addr: SocketAddr) -> Result<(), Fault> {
+    fn take(&mut self, name: Name, value: &'h [u8], key: Option<&Key>) -> Result<(), Fault> {
         match name {
-            "content-length" => {
+            Name::Authorization => {
+                self.credentials += 1;
+                self.lacks_key |= !key.is_some_and(|key| key.is_in(value));
+            }
+            Name::ContentLength => {
                 let told = length_of(value).ok_or(BAD_LENGTH)?;
-                if self.length.replace(told).is_some() {
+                if self.length.replace(told).is_some_and(|other| other != told) {
                     return Err(BAD_LENGTH);
                 }
             }
-            "transfer-encoding" => {
-                let value = std::str::from_utf8(value).map_err(|_| BAD_CODING)?;
-                let codings = value.split(',').map(|it| it.trim().to_ascii_lowercase());
-                self.codings.extend(codings);
+            Name::TransferEncoding => {
+                for coding in elements(value) {
+                    self.codings += 1;
+                    self.coding = self.coding.and(coding);
+                }
             }
-            "origin" if is_served(value, addr) => {}
-            // Without a key no other origin is allowed; with one, that of the Host, which may still
-            // follow.
-            "origin" if self.is_keyed => self.origins.push(value.into()),
-            "origin" => return Err(FOREIGN_ORIGIN),
-            "host" if !self.is_keyed && !is_this_machine(value) => return Err(FOREIGN_HOST),
-            "host" if self.host.replace(value.into()).is_some() => return Err(BAD_HOST),
-            "expect" if !value.eq_ignore_ascii_case(b"100-continue") => return Err(NO_EXPECTATION),
-            "expect" => self.is_expecting = true,
-            "if-none-match" => self.none_match.push(value.into()),
-            _ => {}
+            Name::Host if self.host.replace(value).is_some() => return Err(BAD_HOST),
+            Name::Expect => {
+                let is_known = |it: &[u8]| it.eq_ignore_ascii_case(b"100-continue");
+                self.is_expecting |= elements(value).any(is_known);
+            }
+            Name::ContentDigest
+            | Name::FailregMac
+            | Name::Host
+            | Name::IfNoneMatch
+            | Name::Origin
+            | Name::Other => {}
         }
         Ok(())
     }
 
-    // Rejects a request from a page of another host than the requested one.
-    fn judge_origins(&self) -> Result<(), Fault> {
-        let host = self.host.as_deref();
-        let is_own = |origin: &Vec<u8>| host.is_some_and(|host| is_of_host(origin, host));
-        match self.origins.iter().all(is_own) {
-            true => Ok(()),
-            false => Err(FOREIGN_ORIGIN),
-        }
-    }
-
-    // Returns how the body is sent. Only the chunked coding is supported, and it must be the last:
-    // otherwise the end of the body is unknown.
-    fn length(&self) -> Result<Length, Fault> {
-        match (&self.codings[..], self.length) {
-            ([], told) => Ok(Length::Told(told.unwrap_or(0))),
-            (_, Some(_)) => Err(BAD_CODING),
-            ([coding], None) if coding == "chunked" => Ok(Length::Chunks),
-            ([.., last], None) if last == "chunked" => Err(OTHER_CODING),
-            (_, None) => Err(BAD_CODING),
+    // Returns how the body is sent. HTTP/1.0 has no chunks, and a tunnel no body.
+    fn length(&self, method: &str, is_old: bool) -> Result<Length, Fault> {
+        match (self.coding, self.length) {
+            (Coding::None, Some(1..)) if method == "CONNECT" => Err(BAD_LENGTH),
+            (Coding::None, told) => Ok(Length::Told(told.unwrap_or(0))),
+            (Coding::Chunks, None) if !is_old && method != "CONNECT" => Ok(Length::Chunks),
+            _ => Err(BAD_CODING),
         }
     }
 }
 
-// Reads the fields of a head, one per line. A client without access gets no other error. The page
-// is for all, because it asks for the key.
-fn fields_of<'a>(
-    lines: impl Iterator<Item = &'a [u8]>,
+/// Who may send requests to a node that is served at this address.
+struct Access<'k> {
+    addr: SocketAddr,
+    /// With a key it decides about access, rather than the machine's name.
+    key: Option<&'k Key>,
+}
+
+impl Access<'_> {
+    // Rejects a request of somebody without access, or from a page of another host than the
+    // requested one. The page is for all who have a key to enter, because it asks for it.
+    fn judge(
+        &self,
+        fields: &Fields<'_>,
+        lines: &[u8],
+        host: Option<&[u8]>,
+        is_page: bool,
+    ) -> Result<(), Fault> {
+        let has_key = !fields.lacks_key && fields.credentials == 1;
+        if self.key.is_some() && !is_page && !has_key {
+            return Err(NO_KEY);
+        }
+        if self.key.is_none() && !host.is_none_or(is_this_machine) {
+            return Err(FOREIGN_HOST);
+        }
+        if !self.is_own_page(lines, host) {
+            return Err(FOREIGN_ORIGIN);
+        }
+        // Only the chunked coding is supported.
+        match fields.codings > 1 {
+            true => Err(OTHER_CODING),
+            false => Ok(()),
+        }
+    }
+
+    fn is_own_page(&self, lines: &[u8], host: Option<&[u8]>) -> bool {
+        let (port, is_keyed) = (self.addr.port(), self.key.is_some());
+        let mut origins = fields(lines).flatten();
+        origins
+            .all(|(name, value)| name != Name::Origin || is_own_page(value, host, port, is_keyed))
+    }
+}
+
+/// Reads a whole head, whose lines are those of [`Lines`](crate::lines::Lines) without the empty
+/// ones, for a node that is served at this address, with this key, if there is one.
+pub(crate) fn head_of<'h>(
+    bytes: &'h [u8],
     addr: SocketAddr,
     key: Option<&Key>,
-    is_page: bool,
-) -> Result<Fields, Fault> {
-    let mut fields = Fields::of(key);
-    let mut taken = Ok(());
-    for (number, line) in lines.enumerate() {
-        if number == MAX_FIELDS {
-            return Err(MANY_FIELDS);
-        }
-        let line = line.strip_suffix(b"\r").unwrap_or(line);
-        let (name, value) = field(line).ok_or(BAD_FIELD)?;
-        match &*name {
-            "authorization" => fields.take_credentials(value, key),
-            _ if taken.is_ok() => taken = fields.take(&name, value, addr),
-            _ => {}
-        }
-    }
-    if !is_page {
-        fields.let_in()?;
-    }
-    taken?;
-    fields.judge_origins()?;
-    Ok(fields)
-}
-
-/// Reads a whole head, whose lines end with CR LF, for a node that is served at this address, with
-/// this key, if there is one.
-pub(crate) fn head_of(bytes: &[u8], addr: SocketAddr, key: Option<&Key>) -> Result<Head, Fault> {
-    let mut lines = bytes
-        .strip_suffix(b"\r\n")
-        .ok_or(BAD_LINE)?
-        .split(|b| *b == b'\n');
-    let first = lines.next().unwrap_or_default();
-    let first = first.strip_suffix(b"\r").unwrap_or(first);
-    let (method, path, version) = request_line(first).ok_or(BAD_LINE)?;
-    let is_page = (method, path) == ("GET", "/");
-    let fields = fields_of(lines, addr, key, is_page)?;
-    if version == "HTTP/1.1" && fields.host.is_none() {
+) -> Result<Head<'h>, Fault> {
+    let end = bytes.iter().position(|b| *b == b'\n').ok_or(BAD_LINE)?;
+    let (first, lines) = bytes.split_at(end + 1);
+    let first = first.strip_suffix(b"\r\n").ok_or(BAD_LINE)?;
+    let (method, target, version) = request_line(first).ok_or(BAD_LINE)?;
+    let is_old = version == "HTTP/1.0";
+    let fields = Fields::of(lines, key)?;
+    if !is_old && fields.host.is_none() {
         return Err(BAD_HOST);
     }
+    let length = fields.length(method, is_old)?;
+    let host = target.host.map(str::as_bytes).or(fields.host);
+    let is_page = (method, target.path) == ("GET", "/");
+    Access { addr, key }.judge(&fields, lines, host, is_page)?;
     let head = Head {
-        method: method.to_string(),
-        path: path.to_string(),
-        length: fields.length()?,
-        is_expecting: fields.is_expecting,
-        none_match: fields.none_match,
-        is_old: version == "HTTP/1.0",
+        method,
+        path: target.path,
+        length,
+        is_expecting: fields.is_expecting && !is_old,
+        fields: lines,
+        is_old,
     };
     match head.length {
         Length::Told(told) if told > MAX_BODY as u64 => Err(head.too_long()),
@@ -363,52 +414,56 @@ pub(crate) fn head_of(bytes: &[u8], addr: SocketAddr, key: Option<&Key>) -> Resu
     }
 }
 
-/// Returns the error of bytes that can't be the start of a head, for example those of another
-/// protocol.
-pub(crate) fn is_no_head(bytes: &[u8]) -> bool {
-    bytes.first().is_some_and(|first| !is_token(&[*first]))
-}
-
-/// Returns the end of the head at the start of these bytes, if it is complete. Each of its newlines
-/// follows a CR. The bytes before `from` were checked before.
-pub(crate) fn end_of_head(bytes: &[u8], from: usize) -> Result<Option<usize>, Fault> {
-    for (at, byte) in bytes.iter().enumerate().skip(from) {
-        if *byte == b'\n' {
-            if at == 0 || bytes[at - 1] != b'\r' {
-                return Err(BARE_NEWLINE);
-            }
-            if bytes[..at - 1].ends_with(b"\r\n") {
-                return Ok(Some(at + 1));
-            }
-        }
-    }
-    Ok(None)
-}
-
 #[cfg(test)]
 mod tests {
     use super::*;
+    use crate::lines::Lines;
+    use std::net::Ipv4Addr;
 
     const ADDR: SocketAddr = SocketAddr::new(std::net::IpAddr::V4(Ipv4Addr::LOCALHOST), 7070);
 
+    /// A head, without the bytes in which it lies.
+    #[derive(Debug, PartialEq)]
+    struct Read {
+        method: String,
+        path: String,
+        length: Length,
+        is_expecting: bool,
+        is_old: bool,
+    }
+
     // A head of HTTP/1.1 with these fields after its Host.
-    fn read_line(line: &str, fields: &str) -> Result<Head, u16> {
+    fn read_line(line: &str, fields: &str) -> Result<Read, u16> {
         read(&format!("{line}\r\nHost: localhost:7070\r\n{fields}"))
     }
 
-    fn read(text: &str) -> Result<Head, u16> {
+    fn read(text: &str) -> Result<Read, u16> {
         read_with(text, None)
     }
 
-    fn read_with(text: &str, key: Option<&Key>) -> Result<Head, u16> {
-        head_of(text.as_bytes(), ADDR, key).map_err(|fault| match fault {
+    fn read_with(text: &str, key: Option<&Key>) -> Result<Read, u16> {
+        let status = |fault| match fault {
             Fault::Reply(status, _) => status,
+            Fault::OtherMethod(_) => 405,
             Fault::Gone => 0,
+        };
+        let mut lines = Lines::of_head();
+        lines
+            .take(format!("{text}\r\n").as_bytes())
+            .map_err(status)?;
+        assert!(lines.is_over(), "{text:?}");
+        let head = head_of(text.as_bytes(), ADDR, key).map_err(status)?;
+        Ok(Read {
+            method: head.method.into(),
+            path: head.path.into(),
+            length: head.length,
+            is_expecting: head.is_expecting,
+            is_old: head.is_old,
         })
     }
 
     #[test]
-    fn who_has_no_key_is_told_that_alone() {
+    fn who_has_no_key_is_told_that() {
         let key = Key::of(&[0xab; 32]).unwrap();
         let has = format!("Authorization: Bearer {}\r\n", "ab".repeat(32));
         let near = format!("Authorization: Bearer {}ac\r\n", "ab".repeat(31));
@@ -427,8 +482,11 @@ mod tests {
                 ("GET /nope", "Host: example.org\r\n"),
                 ("POST /load", "Host: a\r\nOrigin: http://example.org\r\n"),
                 ("POST /load", "Host: a\r\nContent-Length: 67108865\r\n"),
-                ("POST /load", "Content-Length: ?\r\n"),
-                ("POST /load", "Host: a\r\nExpect: a miracle\r\n"),
+                (
+                    "POST /load",
+                    "Host: a\r\nTransfer-Encoding: gzip, chunked\r\n",
+                ),
+                ("POST http://a/load", "Host: a\r\n"),
             ] {
                 for fields in [
                     format!("{fields}{credentials}"),
@@ -437,6 +495,18 @@ mod tests {
                     assert_eq!(read(line, &fields), Err(401), "{line} {fields}");
                 }
             }
+        }
+        // Only what is no request is another error.
+        for fields in [
+            "",
+            "Host: a\r\nHost: a\r\n",
+            "Host: a\r\nContent-Length: ?\r\n",
+        ] {
+            assert_eq!(read("POST /load", fields), Err(400), "{fields}");
+        }
+        for scheme in ["bearer ", "BEARER ", "Bearer   "] {
+            let fields = format!("Host: a\r\n{}", has.replace("Bearer ", scheme));
+            assert!(read("GET /fail", &fields).is_ok(), "{fields}");
         }
         // The page, which asks for the key, needs none; other paths and methods do.
         assert_eq!(read("GET /", "Host: a\r\n"), Ok("/".into()));
@@ -476,23 +546,74 @@ mod tests {
             "PUT /fail/a?x=1 HTTP/1.1",
             "Content-Length:  12\t\r\nExpect: 100-Continue\r\nX: \r\n",
         );
-        let wanted = Head {
+        let wanted = Read {
             method: "PUT".into(),
             path: "/fail/a".into(),
             length: Length::Told(12),
             is_expecting: true,
-            none_match: Vec::new(),
             is_old: false,
         };
         assert_eq!(head, Ok(wanted));
-        // HTTP/1.0 has no Host, and no length means no body.
-        let old = read("GET / HTTP/1.0\r\n").map(|head| (head.length, head.is_old));
-        assert_eq!(old, Ok((Length::Told(0), true)));
+        // HTTP/1.0 has no Host and no interim responses, and no length means no body.
+        let old = read("GET / HTTP/1.0\r\nExpect: 100-continue\r\n");
+        let old = old.map(|head| (head.length, head.is_old, head.is_expecting));
+        assert_eq!(old, Ok((Length::Told(0), true, false)));
         let longest = format!("Content-Length: {MAX_BODY}\r\n");
         let length = read_line("POST /load HTTP/1.1", &longest).map(|head| head.length);
         assert_eq!(length, Ok(Length::Told(MAX_BODY as u64)));
         let chunks = read_line("POST /load HTTP/1.1", "transfer-encoding: Chunked\r\n");
         assert_eq!(chunks.map(|head| head.length), Ok(Length::Chunks));
+        for lengths in [
+            "Content-Length: 3\r\nContent-Length: 3\r\n",
+            "content-length: 03\r\n",
+        ] {
+            let length = read_line("POST /load HTTP/1.1", lengths).map(|head| head.length);
+            assert_eq!(length, Ok(Length::Told(3)), "{lengths}");
+        }
+        for (expectation, is_expecting) in [
+            ("a miracle", false),
+            ("", false),
+            ("100-continued", false),
+            ("more, 100-CONTINUE", true),
+        ] {
+            let fields = format!("Expect: {expectation}\r\n");
+            let head = read_line("POST /load HTTP/1.1", &fields);
+            assert_eq!(
+                head.map(|head| head.is_expecting),
+                Ok(is_expecting),
+                "{fields}"
+            );
+        }
+    }
+
+    #[test]
+    fn the_host_of_an_absolute_url_counts() {
+        let read = |url: &str, fields: &str| {
+            let head = read(&format!("PUT {url} HTTP/1.1\r\n{fields}"));
+            head.map(|head| head.path)
+        };
+        let foreign = "Host: example.org\r\n";
+        assert_eq!(read("http://[::1]/fail/p?x", foreign), Ok("/fail/p".into()));
+        assert_eq!(
+            read("http://example.org/fail/p", "Host: localhost\r\n"),
+            Err(403)
+        );
+        assert_eq!(
+            read("http://u@localhost/fail/p", "Host: localhost\r\n"),
+            Err(403)
+        );
+        assert_eq!(read("http://localhost/fail/p", ""), Err(400));
+        for (origin, status) in [
+            ("http://localhost", None),
+            ("http://example.org", Some(403)),
+        ] {
+            let fields = format!("{foreign}Origin: {origin}\r\n");
+            assert_eq!(
+                read("http://localhost/fail/p", &fields).err(),
+                status,
+                "{origin}"
+            );
+        }
     }
 
     #[test]
@@ -505,11 +626,10 @@ mod tests {
             "GET / HTTP/1.1 ",
             "GET  / HTTP/1.1",
             " GET / HTTP/1.1",
-            "GET x HTTP/1.1",
-            "GET http://localhost/fail HTTP/1.1",
-            "GET * HTTP/1.1",
+            "GET x/y HTTP/1.1",
+            "GET http:/fail HTTP/1.1",
             "G(T / HTTP/1.1",
-            "GET /\u{e9} HTTP/1.1",
+            "GET /a<b HTTP/1.1",
             "GET /\0 HTTP/1.1",
             "GET /\r HTTP/1.1",
         ] {
@@ -527,13 +647,18 @@ mod tests {
             "Content-Length:\r\n",
             "Content-Length: 1, 1\r\n",
             "Content-Length: 0x1\r\n",
-            "Content-Length: 1\r\ncontent-length: 1\r\n",
+            "Content-Length: 1\r\ncontent-length: 2\r\n",
+            "Content-Length: \x0c1\r\n",
+            "Content-Length: \u{a0}1\r\n",
             "Host: localhost\r\n",
         ] {
             assert_eq!(read_line("GET / HTTP/1.1", fields), Err(400), "{fields:?}");
         }
         assert_eq!(read("GET / HTTP/1.1\r\n"), Err(400), "no Host");
-        assert_eq!(read("GET / HTTP/1.0"), Err(400), "no newline");
+        assert_eq!(
+            read("CONNECT a:1 HTTP/1.0\r\nContent-Length: 1\r\n"),
+            Err(400)
+        );
     }
 
     #[test]
@@ -544,23 +669,39 @@ mod tests {
                 "Transfer-Encoding: gzip\r\nTransfer-Encoding: chunked\r\n",
                 501,
             ),
+            ("Transfer-Encoding: , chunked\r\n", 501),
             ("Transfer-Encoding: gzip\r\n", 400),
+            ("Transfer-Encoding: chunked, chunked\r\n", 400),
+            ("Transfer-Encoding: gzip, chunked, chunked\r\n", 400),
+            ("Transfer-Encoding: chunked,\r\n", 400),
+            ("Transfer-Encoding: chunked;q=1\r\n", 400),
+            ("Transfer-Encoding: \x0cchunked\r\n", 400),
+            ("Transfer-Encoding: \u{a0}chunked\r\n", 400),
             ("Transfer-Encoding: \r\n", 400),
             ("Transfer-Encoding: chunked\r\nContent-Length: 1\r\n", 400),
             ("Content-Length: 67108865\r\n", 413),
             ("Content-Length: 18446744073709551615\r\n", 413),
             ("Content-Length: 18446744073709551616\r\n", 400),
-            ("Expect: a miracle\r\n", 417),
             ("Origin: http://example.org\r\n", 403),
             ("Origin: null\r\n", 403),
             ("Origin: http://127.0.0.1:7071\r\n", 403),
             ("Origin: https://127.0.0.1:7070\r\n", 403),
             ("Origin: http://127.0.0.1:70700\r\n", 403),
+            ("Origin: http://localhost\r\n", 403),
+            ("Origin: https://localhost:7070\r\n", 403),
         ] {
             let answered = read_line("POST /load HTTP/1.1", fields);
             assert_eq!(answered, Err(status), "{fields:?}");
         }
-        assert!(read_line("GET /report HTTP/1.1", "Origin: http://127.0.0.1:7070\r\n").is_ok());
+        for origin in ["127.0.0.1:7070", "localhost:7070"] {
+            let fields = format!("Origin: http://{origin}\r\n");
+            assert!(
+                read_line("GET /report HTTP/1.1", &fields).is_ok(),
+                "{origin}"
+            );
+        }
+        let old = read("PUT /fail/a HTTP/1.0\r\nTransfer-Encoding: chunked\r\n");
+        assert_eq!(old, Err(400), "HTTP/1.0 has no chunks");
     }
 
     #[test]
@@ -583,7 +724,9 @@ mod tests {
             ("POST /spread/a", 413),
             ("DELETE /spread/a", 405),
             ("PUT /spread/", 404),
-            ("PUT /fail/", 404),
+            ("PUT /fail/", 405),
+            ("GET /fail/", 413),
+            ("GET /fail//", 404),
             ("GET /", 413),
             ("POST /", 405),
             ("GET //", 404),
@@ -592,68 +735,5 @@ mod tests {
             let answered = read_line(&format!("{line} HTTP/1.1"), long);
             assert_eq!(answered, Err(status), "{line:?}");
         }
-    }
-
-    #[test]
-    fn a_host_is_this_machine() {
-        let hosts = [
-            "localhost",
-            "LOCALHOST:1",
-            "127.0.0.1",
-            "127.0.0.1:65535",
-            "127.1.2.3:80",
-            "[::1]",
-            "[::1]:7070",
-        ];
-        let foreign = [
-            "",
-            ":7070",
-            "example.org",
-            "example.org:7070",
-            "localhost.example.org",
-            "127.0.0.1.example.org",
-            "127.0.0.1:",
-            "127.0.0.1:65536",
-            "127.0.0.1:+1",
-            "127.0.0.1:a",
-            "10.0.0.1",
-            "0.0.0.0",
-            "[::1",
-            "::1",
-            "[::1]x",
-            "[::2]:7070",
-            "[127.0.0.1]",
-            "localhost]",
-            "\u{e9}",
-        ];
-        for host in hosts {
-            assert!(is_this_machine(host.as_bytes()), "{host:?}");
-        }
-        for host in foreign {
-            assert!(!is_this_machine(host.as_bytes()), "{host:?}");
-            let head = read(&format!("GET / HTTP/1.1\r\nHost: {host}\r\n"));
-            assert_eq!(head, Err(403), "{host:?}");
-        }
-    }
-
-    #[test]
-    fn a_head_ends_at_its_empty_line_in_whatever_pieces_it_comes() {
-        let text = b"GET / HTTP/1.1\r\nHost: a\r\n\r\nbody\n";
-        for from in 0..text.len() - 5 {
-            let (whole, part) = (end_of_head(text, from), end_of_head(&text[..from], 0));
-            assert_eq!(
-                (whole, part),
-                (Ok(Some(text.len() - 5)), Ok(None)),
-                "{from}"
-            );
-        }
-        for bare in ["\n", "GET / HTTP/1.1\n", "GET / HTTP/1.1\r\n\n", "\r\r\n\n"] {
-            assert_eq!(
-                end_of_head(bare.as_bytes(), 0),
-                Err(BARE_NEWLINE),
-                "{bare:?}"
-            );
-        }
-        assert_eq!(end_of_head(b"\r\n\r\n", 0), Ok(Some(4)));
     }
 }

@@ -1,17 +1,68 @@
 //! The subset of HTTP/1.1 that a served node supports: one request per connection, with a
 //! Content-Length or a chunked body.
 
-use crate::chunks::{ChunkFault, Chunks, extend};
+use crate::bodies::{Body, Needed};
+use crate::chunks::{ChunkFault, Chunks};
 use crate::date::date_of;
 use crate::heads::{
-    BAD_LINE, Fault, Head, LONG_HEAD, LONG_TARGET, Length, MAX_BODY, MAX_HEAD, NO_MEMORY,
-    end_of_head, head_of, is_no_head, methods_at,
+    Fault, Head, LONG_HEAD, LONG_TARGET, Length, MAX_BODY, MAX_HEAD, NO_MEMORY, head_of, methods_at,
 };
 use crate::key::Key;
+use crate::lines::Lines;
+use crate::memory::Fixed;
 use crate::page::POLICY;
-use std::io::{self, ErrorKind, Read, Write};
+use crate::tags::Tag;
+use std::fmt::{self, Write as _};
+use std::io::{self, ErrorKind, IoSlice, Read, Write};
 use std::net::{Shutdown, SocketAddr, TcpStream};
 use std::time::{Duration, Instant, SystemTime};
+
+/// How many bytes of a head are read at once, and the room for a short head and any head, with what
+/// follows it.
+const PIECE_OF_HEAD: usize = 4_096;
+const ROOM_OF_SHORT_HEAD: usize = 3 * PIECE_OF_HEAD;
+const ROOM_OF_HEAD: usize = MAX_HEAD + PIECE_OF_HEAD;
+
+/// More bytes than the head of a response has.
+const ROOM_OF_FRONT: usize = 2_048;
+
+/// The bytes of a request's head, and those that were read with it. Only a long head takes memory
+/// of the heap.
+pub struct HeadRoom {
+    short: [u8; ROOM_OF_SHORT_HEAD],
+    long: Vec<u8>,
+}
+
+impl HeadRoom {
+    /// Returns room for a head.
+    pub const fn new() -> HeadRoom {
+        HeadRoom {
+            short: [0; ROOM_OF_SHORT_HEAD],
+            long: Vec::new(),
+        }
+    }
+
+    fn bytes(&self) -> &[u8] {
+        match self.long.as_slice() {
+            [] => &self.short,
+            long => long,
+        }
+    }
+
+    // Returns room for the next piece after this many bytes.
+    fn next_piece(&mut self, length: usize) -> Result<&mut [u8], Fault> {
+        if self.long.is_empty() && length + PIECE_OF_HEAD > self.short.len() {
+            let mut long = piece_of(ROOM_OF_HEAD)?;
+            long[..length].copy_from_slice(&self.short[..length]);
+            self.long = long;
+        }
+        let bytes = match self.long.as_mut_slice() {
+            [] => &mut self.short,
+            long => long,
+        };
+        Ok(&mut bytes[length..length + PIECE_OF_HEAD])
+    }
+}
 
 /// How many bytes of a body are read at once; as many are reserved before any arrive.
 const PIECE: usize = 65_536;
@@ -21,6 +72,14 @@ const WHOLE_TIME: Duration = Duration::from_secs(10);
 
 /// How long a client may continue sending ignored bytes, so that it gets to reading the response.
 const DRAIN_TIME: Duration = Duration::from_secs(1);
+
+// Returns what follows the empty lines at the start of a head (RFC 9112, section 2.2).
+fn rest_of_empty_lines(mut bytes: &[u8]) -> &[u8] {
+    while let Some(rest) = bytes.strip_prefix(b"\r\n") {
+        bytes = rest;
+    }
+    bytes
+}
 
 // Returns room for this many bytes of a body.
 fn piece_of(size: usize) -> Result<Vec<u8>, Fault> {
@@ -35,9 +94,11 @@ pub struct Connection<'a> {
     stream: &'a TcpStream,
     begun: Instant,
     /// The bytes that were read after the head.
-    rest: Vec<u8>,
+    rest: &'a [u8],
     /// Whether the client sent more than the request.
     has_more: bool,
+    /// Whether the request has the method `HEAD`.
+    is_head: bool,
 }
 
 impl<'a> Connection<'a> {
@@ -46,8 +107,9 @@ impl<'a> Connection<'a> {
         Connection {
             stream,
             begun: Instant::now(),
-            rest: Vec::new(),
+            rest: &[],
             has_more: false,
+            is_head: false,
         }
     }
 
@@ -64,63 +126,89 @@ impl<'a> Connection<'a> {
     }
 
     /// Reads the head of the request, which must have the key, if there is one.
-    pub fn read_head(&mut self, addr: SocketAddr, key: Option<&Key>) -> Result<Head, Fault> {
-        let (mut bytes, mut piece, mut looked) = (Vec::new(), [0; 4_096], 0);
-        let end = loop {
-            let read = self.read_by(&mut piece, self.begun + HEAD_TIME)?;
-            bytes.extend_from_slice(&piece[..read]);
-            if is_no_head(&bytes) {
-                return Err(BAD_LINE);
+    pub fn read_head(
+        &mut self,
+        room: &'a mut HeadRoom,
+        addr: SocketAddr,
+        key: Option<&Key>,
+    ) -> Result<Head<'a>, Fault> {
+        let (mut lines, mut length, mut end) = (Lines::of_head(), 0, 0);
+        while !lines.is_over() {
+            let read = self.read_by(room.next_piece(length)?, self.begun + HEAD_TIME)?;
+            let bytes = &room.bytes()[..length + read];
+            self.is_head = rest_of_empty_lines(bytes).starts_with(b"HEAD ");
+            end += lines.take(&bytes[length..])?;
+            length += read;
+            if end > MAX_HEAD || (length >= MAX_HEAD && !lines.is_over()) {
+                let first = rest_of_empty_lines(&bytes[..MAX_HEAD]);
+                return Err(if first.contains(&b'\n') {
+                    LONG_HEAD
+                } else {
+                    LONG_TARGET
+                });
             }
-            match end_of_head(&bytes, looked)? {
-                Some(end) if end <= MAX_HEAD => break end,
-                None if bytes.len() < MAX_HEAD => looked = bytes.len(),
-                _ if !bytes[..MAX_HEAD].contains(&b'\n') => return Err(LONG_TARGET),
-                _ => return Err(LONG_HEAD),
-            }
-        };
-        self.rest = bytes.split_off(end);
-        head_of(&bytes[..end - 2], addr, key)
-    }
-
-    /// Reads the body of a head. Memory grows as the body arrives. The bytes after it are no
-    /// request of this connection.
-    pub fn read_body(&mut self, head: &Head) -> Result<Vec<u8>, Fault> {
-        match head.length {
-            Length::Told(told) => self.read_told(told as usize, head.is_expecting),
-            Length::Chunks => self.read_chunks(head),
         }
+        let room: &'a HeadRoom = room;
+        let (head, rest) = room.bytes()[..length].split_at(end);
+        self.rest = rest;
+        head_of(rest_of_empty_lines(&head[..end - 2]), addr, key)
     }
 
-    fn go_on(&self, is_expecting: bool) -> io::Result<()> {
+    /// Reads the body of a head, and returns bytes that the node handles as it would handle the
+    /// body. Memory grows as what is needed of it arrives. The bytes after it are no request of
+    /// this connection.
+    pub fn read_body(&mut self, head: &Head<'_>) -> Result<Vec<u8>, Fault> {
+        let body = Body::new(Needed::of(head));
+        let body = match head.length {
+            Length::Told(told) => self.read_told(body, told as usize, head.is_expecting)?,
+            Length::Chunks => self.read_chunks(body, head)?,
+        };
+        Ok(body.into_bytes())
+    }
+
+    fn send_continue(&self, is_expecting: bool) -> io::Result<()> {
         match is_expecting {
-            true => write_by(self.stream, b"HTTP/1.1 100 Continue\r\n\r\n", self.end()),
+            true => write_by(
+                self.stream,
+                [b"HTTP/1.1 100 Continue\r\n\r\n", b""],
+                self.end(),
+            ),
             false => Ok(()),
         }
     }
 
-    fn read_told(&mut self, length: usize, is_expecting: bool) -> Result<Vec<u8>, Fault> {
-        let mut body = std::mem::take(&mut self.rest);
-        self.go_on(is_expecting && body.len() < length)?;
-        // One byte more, to detect a body that is longer than its length.
-        let mut piece = piece_of((length + 1).min(PIECE))?;
-        while body.len() < length {
-            piece.truncate(length - body.len() + 1);
-            let read = self.read_by(&mut piece, self.end())?;
-            extend(&mut body, &piece[..read]).map_err(|_| NO_MEMORY)?;
+    fn read_told(
+        &mut self,
+        mut body: Body,
+        length: usize,
+        is_expecting: bool,
+    ) -> Result<Body, Fault> {
+        let (front, behind) = self.rest.split_at(length.min(self.rest.len()));
+        self.has_more = !behind.is_empty();
+        body.take(front).map_err(|_| NO_MEMORY)?;
+        if body.len() == length {
+            return Ok(body);
         }
-        self.has_more = body.len() > length;
-        body.truncate(length);
+        self.send_continue(is_expecting)?;
+        // One byte more, to detect a body that is longer than its length.
+        let mut piece = piece_of((length - body.len() + 1).min(PIECE))?;
+        while body.len() < length {
+            let left = length - body.len();
+            piece.truncate(left + 1);
+            let read = self.read_by(&mut piece, self.end())?;
+            self.has_more = read > left;
+            body.take(&piece[..read.min(left)]).map_err(|_| NO_MEMORY)?;
+        }
         Ok(body)
     }
 
-    fn read_chunks(&mut self, head: &Head) -> Result<Vec<u8>, Fault> {
-        let mut chunks = Chunks::new(MAX_BODY);
-        let mut came = std::mem::take(&mut self.rest);
-        self.go_on(head.is_expecting && came.is_empty())?;
-        let mut piece = piece_of(PIECE)?;
+    fn read_chunks(&mut self, body: Body, head: &Head<'_>) -> Result<Body, Fault> {
+        let mut chunks = Chunks::new(body, MAX_BODY);
+        let rest = self.rest;
+        self.send_continue(head.is_expecting)?;
+        let (mut taken, mut piece) = (chunks.take(rest), Vec::new());
         loop {
-            match chunks.take(&came) {
+            match taken {
                 Ok(Some(behind)) => {
                     self.has_more = behind > 0;
                     return Ok(chunks.into_body());
@@ -130,17 +218,54 @@ impl<'a> Connection<'a> {
                 Err(ChunkFault::TooLong) => return Err(head.too_long()),
                 Err(ChunkFault::NoMemory) => return Err(NO_MEMORY),
             }
+            if piece.is_empty() {
+                piece = piece_of(PIECE)?;
+            }
             let read = self.read_by(&mut piece, self.end())?;
-            came.clear();
-            extend(&mut came, &piece[..read]).map_err(|_| NO_MEMORY)?;
+            taken = chunks.take(&piece[..read]);
         }
     }
 
-    /// Writes the response, the connection's last, to a request with this head, if there was one. A
-    /// response to `HEAD`, or to a client that has the body, has no body.
-    pub fn write(&mut self, head: Option<&Head>, status: u16, body: &[u8]) -> io::Result<()> {
-        let reply = reply_to(head, status, body, SystemTime::now());
-        write_by(self.stream, &reply, self.end())?;
+    /// Writes the response, the connection's last, to a request with this head. A response to
+    /// `HEAD`, or to a client that has the body, has no body.
+    pub fn write(&mut self, head: &Head<'_>, status: u16, body: &[u8]) -> io::Result<()> {
+        let tag = head.tag_of(status, body);
+        let is_there = tag.is_some_and(|tag| head.has(&tag));
+        let status = if is_there { 304 } else { status };
+        let response = Response {
+            version: head.version(),
+            status,
+            path: head.path,
+            methods: methods_at(head.path),
+            tag,
+        };
+        self.write_response(&response, body)
+    }
+
+    /// Writes the response, the connection's last, to a request that doesn't reach the node.
+    pub fn write_fault(
+        &mut self,
+        status: u16,
+        text: &str,
+        methods: Option<&'static str>,
+    ) -> io::Result<()> {
+        let response = Response {
+            version: "HTTP/1.1",
+            status,
+            path: "",
+            methods,
+            tag: None,
+        };
+        self.write_response(&response, text.as_bytes())
+    }
+
+    fn write_response(&mut self, response: &Response<'_>, body: &[u8]) -> io::Result<()> {
+        let front = response
+            .front(body.len(), SystemTime::now())
+            .map_err(|_| io::Error::from(ErrorKind::OutOfMemory))?;
+        let has_body = !self.is_head && response.status != 304;
+        let body = if has_body { body } else { &[] };
+        write_by(self.stream, [front.bytes(), body], self.end())?;
         self.stream.shutdown(Shutdown::Write)
     }
 
@@ -160,57 +285,70 @@ impl<'a> Connection<'a> {
     }
 }
 
-// Returns the response at this time to a request with this head, if there was one.
-fn reply_to(head: Option<&Head>, status: u16, body: &[u8], now: SystemTime) -> Vec<u8> {
-    let version = head.map_or("HTTP/1.1", Head::version);
-    let tag = head.and_then(|head| head.tag_of(status, body));
-    let etag = tag
-        .as_ref()
-        .map_or(String::new(), |tag| format!("etag: {tag}\r\n"));
-    if head.zip(tag).is_some_and(|(head, tag)| head.has(&tag)) {
-        return format!("{}\r\n", reply_head(version, 304, &etag, now)).into_bytes();
-    }
-    let labels = labels_of(head.map_or("", |head| &head.path), status);
-    let begun = reply_head(version, status, &format!("{labels}{etag}"), now);
-    let mut reply = format!("{begun}content-length: {}\r\n\r\n", body.len()).into_bytes();
-    if head.is_none_or(|head| head.method != "HEAD") {
-        reply.extend_from_slice(body);
-    }
-    reply
+/// A response, without its body.
+struct Response<'a> {
+    version: &'static str,
+    status: u16,
+    path: &'a str,
+    /// The methods of the path, if it exists.
+    methods: Option<&'static str>,
+    /// The tag of its body, if it has one.
+    tag: Option<Tag>,
 }
 
-// Returns the head of a response with these fields and the common ones: its date, and the end of
-// the connection.
-fn reply_head(version: &str, status: u16, fields: &str, now: SystemTime) -> String {
-    let reason = reason(status);
-    let date = date_of(now).map_or(String::new(), |date| format!("date: {date}\r\n"));
-    format!("{version} {status} {reason}\r\n{fields}{date}connection: close\r\n")
-}
+impl Response<'_> {
+    // Returns its head at this time. It takes no memory, so that a call that was made is always
+    // answered.
+    fn front(&self, length: usize, now: SystemTime) -> Result<Fixed<ROOM_OF_FRONT>, fmt::Error> {
+        let mut front = Fixed::new();
+        let Response {
+            version, status, ..
+        } = self;
+        write!(front, "{version} {status} {}\r\n", reason(*status))?;
+        if *status != 304 {
+            self.write_labels(&mut front)?;
+        }
+        if let Some(tag) = &self.tag {
+            write!(front, "etag: {}\r\n", tag.text()?)?;
+        }
+        if let Some(date) = date_of(now) {
+            write!(front, "date: {date}\r\n")?;
+        }
+        front.write_str("connection: close\r\n")?;
+        if *status != 304 {
+            write!(front, "content-length: {length}\r\n")?;
+        }
+        front.write_str("\r\n")?;
+        Ok(front)
+    }
 
-// Returns the fields of a body's type, so that no browser guesses; of the allowed methods, if
-// another was sent; and of how to send the key, if it is missing.
-fn labels_of(path: &str, status: u16) -> String {
-    let content = match path {
-        "/report" | "/status" if status == 200 => "application/json",
-        "/" if status == 200 => "text/html; charset=utf-8",
-        _ => "text/plain; charset=utf-8",
-    };
-    let page = match path == "/" && status == 200 {
-        true => format!(
-            "content-security-policy: {POLICY}\r\ncache-control: no-store\r\n\
-             referrer-policy: no-referrer\r\n"
-        ),
-        false => String::new(),
-    };
-    let allow = match methods_at(path) {
-        Some(methods) if status == 405 => format!("allow: {methods}\r\n"),
-        Some(_) | None => String::new(),
-    };
-    let asks = match status {
-        401 => "www-authenticate: Bearer\r\n",
-        _ => "",
-    };
-    format!("content-type: {content}\r\nx-content-type-options: nosniff\r\n{page}{allow}{asks}")
+    // Writes the fields of a body's type, so that no browser guesses; of the allowed methods, if
+    // another was sent; and of how to send the key, if it is missing.
+    fn write_labels(&self, out: &mut impl fmt::Write) -> fmt::Result {
+        let content = match self.path {
+            "/report" | "/status" if self.status == 200 => "application/json",
+            "/" if self.status == 200 => "text/html; charset=utf-8",
+            _ => "text/plain; charset=utf-8",
+        };
+        write!(
+            out,
+            "content-type: {content}\r\nx-content-type-options: nosniff\r\n"
+        )?;
+        if self.path == "/" && self.status == 200 {
+            write!(
+                out,
+                "content-security-policy: {POLICY}\r\ncache-control: no-store\r\n\
+                 referrer-policy: no-referrer\r\n"
+            )?;
+        }
+        if let Some(methods) = self.methods.filter(|_| self.status == 405) {
+            write!(out, "allow: {methods}\r\n")?;
+        }
+        match self.status {
+            401 => out.write_str("www-authenticate: Bearer\r\n"),
+            _ => Ok(()),
+        }
+    }
 }
 
 fn left_until(deadline: Instant) -> io::Result<Duration> {
@@ -236,17 +374,21 @@ pub(crate) fn read_by(
     }
 }
 
-// Writes everything before the deadline.
+// Writes two pieces before the deadline, together if the system takes them so.
 pub(crate) fn write_by(
     mut stream: &TcpStream,
-    mut bytes: &[u8],
+    pieces: [&[u8]; 2],
     deadline: Instant,
 ) -> io::Result<()> {
-    while !bytes.is_empty() {
+    let mut slices = pieces.map(IoSlice::new);
+    let mut left = &mut slices[..];
+    // Without the pieces that are empty.
+    IoSlice::advance_slices(&mut left, 0);
+    while !left.is_empty() {
         stream.set_write_timeout(Some(left_until(deadline)?))?;
-        match stream.write(bytes) {
+        match stream.write_vectored(left) {
             Ok(0) => return Err(ErrorKind::WriteZero.into()),
-            Ok(written) => bytes = &bytes[written..],
+            Ok(written) => IoSlice::advance_slices(&mut left, written),
             Err(error) if error.kind() == ErrorKind::Interrupted => {}
             Err(error) => return Err(error),
         }
@@ -266,7 +408,6 @@ fn reason(status: u16) -> &'static str {
         409 => "Conflict",
         413 => "Payload Too Large",
         414 => "URI Too Long",
-        417 => "Expectation Failed",
         431 => "Request Header Fields Too Large",
         501 => "Not Implemented",
         _ => "Service Unavailable",
@@ -276,19 +417,44 @@ fn reason(status: u16) -> &'static str {
 #[cfg(test)]
 mod tests {
     use super::*;
-    use std::net::Ipv4Addr;
-    use std::time::UNIX_EPOCH;
+    use std::net::{Ipv4Addr, TcpListener};
 
-    // The response to an HTTP/1.1 request with these fields after its Host, at the start of 1970.
+    // The head of the response to an HTTP/1.1 request with these fields after its Host, at the start
+    // of 1970, and the body of a response that has one.
     fn replied(line: &str, fields: &str, status: u16, body: &str) -> String {
         let text = format!("{line} HTTP/1.1\r\nHost: localhost\r\n{fields}");
         let addr = (Ipv4Addr::LOCALHOST, 7070).into();
         let head = head_of(text.as_bytes(), addr, None).unwrap();
-        told(Some(&head), status, body)
+        let (listener, stream) = connected();
+        let mut connection = Connection::new(&stream);
+        connection.is_head = head.method == "HEAD";
+        connection.write(&head, status, body.as_bytes()).unwrap();
+        received(listener, stream)
     }
 
-    fn told(head: Option<&Head>, status: u16, body: &str) -> String {
-        String::from_utf8(reply_to(head, status, body.as_bytes(), UNIX_EPOCH)).unwrap()
+    fn refused(status: u16, body: &str, methods: Option<&'static str>, is_head: bool) -> String {
+        let (listener, stream) = connected();
+        let mut connection = Connection::new(&stream);
+        connection.is_head = is_head;
+        connection.write_fault(status, body, methods).unwrap();
+        received(listener, stream)
+    }
+
+    fn connected() -> (TcpListener, TcpStream) {
+        let listener = TcpListener::bind((Ipv4Addr::LOCALHOST, 0)).unwrap();
+        let stream = TcpStream::connect(listener.local_addr().unwrap()).unwrap();
+        (listener, stream)
+    }
+
+    // What was written to a stream, with the date of the start of 1970.
+    fn received(listener: TcpListener, stream: TcpStream) -> String {
+        let mut text = String::new();
+        let (mut other, _) = listener.accept().unwrap();
+        other.read_to_string(&mut text).unwrap();
+        drop(stream);
+        let (front, rest) = text.split_once("\r\ndate: ").unwrap();
+        let rest = rest.split_once("\r\n").unwrap().1;
+        format!("{front}\r\ndate: Thu, 01 Jan 1970 00:00:00 GMT\r\n{rest}")
     }
 
     const END: &str = "date: Thu, 01 Jan 1970 00:00:00 GMT\r\nconnection: close\r\n";
@@ -299,21 +465,30 @@ mod tests {
             x-content-type-options: nosniff\r\n";
         let wanted = format!("{head}{END}content-length: 2\r\n\r\n[]");
         assert_eq!(replied("GET /report", "", 200, "[]"), wanted);
-        assert!(replied("DELETE /fail", "", 405, "bad method").contains("\r\nallow: GET\r\n"));
+        for path in ["/fail", "/fail/"] {
+            let reply = replied(&format!("DELETE {path}"), "", 405, "bad method");
+            assert!(reply.contains("\r\nallow: GET\r\n"), "{reply}");
+        }
         assert!(!replied("DELETE /fail", "", 409, "N6 NotSet").contains("allow"));
         let without_body = replied("HEAD /report", "", 405, "bad method");
         assert!(
             without_body.ends_with("content-length: 10\r\n\r\n"),
             "{without_body}"
         );
-        let no_key = told(None, 401, "no key");
+        let no_key = refused(401, "no key", None, false);
         assert!(
             no_key.starts_with("HTTP/1.1 401 Unauthorized\r\n"),
             "{no_key}"
         );
         assert!(
-            no_key.contains("\r\nwww-authenticate: Bearer\r\n"),
+            no_key.contains("\r\nwww-authenticate: Bearer\r\n")
+                && no_key.ends_with("\r\n\r\nno key"),
             "{no_key}"
+        );
+        let other = refused(405, "bad method", Some("PUT, POST"), true);
+        assert!(
+            other.contains("\r\nallow: PUT, POST\r\n") && other.ends_with("length: 10\r\n\r\n"),
+            "{other}"
         );
     }
 

@@ -2,13 +2,13 @@
 
 use crate::builder::{Builder, How};
 use crate::error::{Error, ErrorKind};
-use crate::fail_rs::has_failpoints;
+use crate::memory::{copied, extend};
 use crate::node::Node;
 use crate::part::Part;
 use crate::receipts::Receipts;
 use crate::recorder::Recorder;
 use crate::told::{Passed, Stamp};
-use std::collections::HashMap;
+use std::collections::{HashMap, TryReserveError};
 
 /// Where the lines go.
 enum Place {
@@ -56,6 +56,13 @@ impl PassLine {
     }
 }
 
+/// More bytes than a line has beside what its call was given, which it has twice at most: a message
+/// in hex, a text with its quotes escaped.
+const MOST_BESIDE: usize = 1_024;
+
+/// How much room for lines stays.
+const MOST_ROOM: usize = 65_536;
+
 /// The recording of a node.
 pub struct Kept {
     place: Place,
@@ -66,6 +73,11 @@ pub struct Kept {
     counted: Option<HashMap<String, u16>>,
     /// Whether a call couldn't be recorded.
     has_failed: bool,
+    /// Room for a line.
+    line: Vec<u8>,
+    /// The newest call, if its result is nobody's because memory for its line was refused: the line
+    /// is written before the next call.
+    unwritten: Option<u64>,
 }
 
 impl Kept {
@@ -79,16 +91,22 @@ impl Kept {
                 recorder.open(made.number, made.nodes)?;
                 Place::There(recorder.clone(), made.number)
             }
-            How::Part(path) if has_failpoints() => Place::Part(Part::open(path, made, node)?),
-            // The node never accepts a call.
-            How::Part(_) => Place::Nowhere,
+            How::Part(path) => Place::Part(Part::open(path, made, node)?),
         };
         Ok(Kept {
             place,
             lines: HashMap::new(),
             counted: None,
             has_failed: false,
+            line: Vec::new(),
+            unwritten: None,
         })
+    }
+
+    /// Returns whether nothing is recorded, so that no call can fail for it.
+    #[inline]
+    pub fn records_nothing(&self) -> bool {
+        matches!(self.place, Place::Nowhere) && !self.has_failed
     }
 
     /// Returns the receipts, if they are stored.
@@ -100,11 +118,11 @@ impl Kept {
     }
 
     /// Returns the error of the first call that couldn't be recorded.
-    pub fn goes_on(&self) -> Result<(), Error> {
+    pub fn check(&self) -> Result<(), Error> {
         match &self.place {
             Place::Nowhere | Place::Here(_) => {}
-            Place::There(recorder, _) => recorder.goes_on()?,
-            Place::Part(part) => part.goes_on()?,
+            Place::There(recorder, _) => recorder.check()?,
+            Place::Part(part) => part.check()?,
         }
         if self.has_failed {
             let fault = "an earlier call could not be recorded";
@@ -117,18 +135,57 @@ impl Kept {
     pub fn learn(&mut self, list: Option<&str>) {
         self.lines.clear();
         self.counted = match &self.place {
-            Place::Part(part) if part.is_buffered() => list.map(counts_in),
+            Place::Part(part) if part.is_buffered() => list.and_then(|list| counts_in(list).ok()),
             _ => None,
         };
     }
 
-    /// Records the node's newest call, which is no evaluation.
-    pub fn keep(&mut self, node: &mut Node) -> Result<(), Error> {
+    /// Writes the line of a call that is still to be written. Errors: the recording lacks a call, or
+    /// memory for the line is refused again.
+    pub fn catch_up(&mut self, node: &mut Node) -> Result<(), Error> {
+        self.check()?;
+        match self.unwritten {
+            Some(index) => self.keep_or_postpone(node, index),
+            None => Ok(()),
+        }
+    }
+
+    /// Returns whether the node's call history is needed: it has a call that isn't recorded.
+    pub fn needs_history(&self) -> bool {
+        self.unwritten.is_some()
+    }
+
+    /// Makes room for the line of a call that is given this many bytes, before the call is made.
+    pub fn make_room(&mut self, given: usize) -> Result<(), TryReserveError> {
         if matches!(self.place, Place::Nowhere) {
             return Ok(());
         }
-        let kept = newest(node).and_then(|line| self.place.put(&line, false));
-        self.has_failed |= kept.is_err();
+        let most = 2 * given + MOST_BESIDE;
+        self.line.clear();
+        self.line.try_reserve(most)?;
+        self.place.make_room(most)
+    }
+
+    /// Records the node's newest call, which is no evaluation.
+    pub fn keep(&mut self, node: &mut Node) -> Result<(), Error> {
+        let first = node.calls()?.saturating_sub(1);
+        self.keep_since(node, first)
+    }
+
+    /// Records the node's newest call, which made a message. If memory for the line is refused, it is
+    /// written before the next call, and nobody is given the message.
+    pub fn keep_message(&mut self, node: &mut Node) -> Result<(), Error> {
+        if matches!(self.place, Place::Nowhere) {
+            return Ok(());
+        }
+        let index = node.calls()?.saturating_sub(1);
+        self.keep_or_postpone(node, index)
+    }
+
+    fn keep_or_postpone(&mut self, node: &mut Node, index: u64) -> Result<(), Error> {
+        let kept = self.put_call(node, index);
+        self.unwritten = kept.as_ref().is_err_and(is_short).then_some(index);
+        self.has_failed |= kept.is_err() && self.unwritten.is_none();
         kept
     }
 
@@ -137,19 +194,20 @@ impl Kept {
         if matches!(self.place, Place::Nowhere) {
             return Ok(());
         }
-        let kept = self.put_since(node, first);
+        let mut calls = first..node.calls()?;
+        let kept = calls.try_for_each(|index| self.put_call(node, index));
         self.has_failed |= kept.is_err();
-        kept
+        kept.map_err(visible)
     }
 
-    fn put_since(&mut self, node: &mut Node, first: u64) -> Result<(), Error> {
-        for index in first..node.calls()? {
-            let line = node
-                .entry(index)
-                .map_err(|error| not_recorded(error.fault()))?;
-            self.place.put(&(line + "\n"), false)?;
+    // Writes the line of a call.
+    fn put_call(&mut self, node: &mut Node, index: u64) -> Result<(), Error> {
+        let read = read_line(node, index, &mut self.line);
+        let put = read.and_then(|()| self.place.put(&mut self.line, false));
+        if self.line.capacity() > MOST_ROOM {
+            self.line = Vec::new();
         }
-        Ok(())
+        put
     }
 
     /// Records the node's newest call, an evaluation of this point.
@@ -157,7 +215,7 @@ impl Kept {
         if matches!(self.place, Place::Nowhere) {
             return Ok(());
         }
-        let kept = self.put_pass(node, name, pass);
+        let kept = self.put_pass(node, name, pass).map_err(visible);
         self.has_failed |= kept.is_err();
         kept
     }
@@ -170,14 +228,19 @@ impl Kept {
         };
         let mut known = self.lines.get(name).into_iter().flatten();
         if let Some(known) = known.find(|it| Some(it.came_to) == came_to) {
-            return self.place.put(&known.line(node), known.may_wait);
+            return self
+                .place
+                .put(&mut known.line(node).into_bytes(), known.may_wait);
         }
-        let line = newest(node)?;
+        let newest = node.calls()?.saturating_sub(1);
+        read_line(node, newest, &mut self.line)?;
         let term = came_to.and_then(|(_, term)| term);
         let may_wait = term.is_none_or(|term| !self.may_be_counted(name, term));
-        self.place.put(&line, may_wait)?;
         // Nothing is stored for a point that isn't set: there may be any number of names.
-        if let Some(known) = came_to.and_then(|came_to| PassLine::of(came_to, &line, may_wait)) {
+        let text = std::str::from_utf8(&self.line).unwrap_or_default();
+        let known = came_to.and_then(|came_to| PassLine::of(came_to, text, may_wait));
+        self.place.put(&mut self.line, may_wait)?;
+        if let Some(known) = known {
             self.lines.entry(name.to_string()).or_default().push(known);
         }
         Ok(())
@@ -189,12 +252,13 @@ impl Kept {
         counts.is_none_or(|counts| counts >> term & 1 == 1)
     }
 
-    /// Writes the lines that wait. Errors: the recording lacks a call.
-    pub fn flush(&mut self) -> Result<(), Error> {
+    /// Writes the lines that wait. Errors: the recording lacks a call, or memory for its line is
+    /// refused.
+    pub fn flush(&mut self, node: &mut Node) -> Result<(), Error> {
         if let Place::Part(part) = &self.place {
             part.flush();
         }
-        self.goes_on()
+        self.catch_up(node)
     }
 
     /// Closes the journal, which another process may open then.
@@ -206,33 +270,44 @@ impl Kept {
 }
 
 impl Place {
+    // Makes room for a line of this length.
+    fn make_room(&mut self, length: usize) -> Result<(), TryReserveError> {
+        match self {
+            Place::Nowhere | Place::Part(_) => Ok(()),
+            Place::Here(receipts) => receipts.make_room(),
+            Place::There(recorder, _) => recorder.make_room(length),
+        }
+    }
+
     // Writes a line, with its newline. A line that may wait is written with the next one that may
     // not.
-    fn put(&mut self, line: &str, may_wait: bool) -> Result<(), Error> {
+    fn put(&mut self, line: &mut Vec<u8>, may_wait: bool) -> Result<(), Error> {
         match self {
             Place::Nowhere => Ok(()),
-            Place::Here(receipts) => {
-                receipts.keep(line.trim_end());
-                Ok(())
-            }
-            Place::There(recorder, node) => recorder.write(*node, line.trim_end()),
+            Place::Here(receipts) => Ok(receipts.keep(line)?),
+            Place::There(recorder, node) => recorder.write(*node, line.trim_ascii_end()),
             Place::Part(part) => part.put(line, may_wait),
         }
     }
 }
 
-// Returns the line of the newest call, with its newline.
-fn newest(node: &mut Node) -> Result<String, Error> {
-    let line = node
-        .last_entry()
-        .map_err(|error| not_recorded(error.fault()))?;
-    Ok(line + "\n")
+// Reads the line of a call, with its newline.
+fn read_line(node: &mut Node, index: u64, line: &mut Vec<u8>) -> Result<(), Error> {
+    node.entry(index, line)?;
+    Ok(extend(line, b"\n")?)
 }
 
-/// The error of a call that was made but couldn't be recorded.
-pub fn not_recorded(why: impl std::fmt::Display) -> Error {
-    let fault = format!("the call was made, but could not be recorded ({why})");
-    Error::new(ErrorKind::NotRecorded, fault)
+// Returns whether an error is that of a refused allocation.
+fn is_short(error: &Error) -> bool {
+    error.kind() == ErrorKind::OutOfMemory
+}
+
+// Returns the error of a call that was made, whose result is somebody's already.
+fn visible(error: Error) -> Error {
+    match error.kind() {
+        ErrorKind::NotRecorded | ErrorKind::RecordingFailed => error,
+        _ => Error::not_recorded(error.fault()),
+    }
 }
 
 /// The most terms of an action string.
@@ -240,7 +315,7 @@ const MOST_TERMS: usize = 16;
 
 // Returns which terms have a count in a list `name=actions;name=actions`. A count comes before the
 // argument, and only ends of terms are `->`.
-fn counts_in(list: &str) -> HashMap<String, u16> {
+fn counts_in(list: &str) -> Result<HashMap<String, u16>, TryReserveError> {
     let is_counted = |term: &str| {
         term.split('(')
             .next()
@@ -250,10 +325,12 @@ fn counts_in(list: &str) -> HashMap<String, u16> {
         let terms = actions.split("->").take(MOST_TERMS).enumerate();
         terms.fold(0, |all, (n, term)| all | u16::from(is_counted(term)) << n)
     };
-    let points = list.split(';').filter_map(|entry| entry.split_once('='));
-    points
-        .map(|(name, actions)| (name.to_string(), counts(actions)))
-        .collect()
+    let mut all = HashMap::new();
+    for (name, actions) in list.split(';').filter_map(|entry| entry.split_once('=')) {
+        all.try_reserve(1)?;
+        all.insert(copied(name)?, counts(actions));
+    }
+    Ok(all)
 }
 
 #[cfg(test)]
@@ -265,8 +342,8 @@ mod tests {
         let list = "a=off;b.c=20%3*return(x=y)->off -> 1*pause;d=print(2*off)->0*print()";
         let wanted = [("a", 0), ("b.c", 0b101), ("d", 0b10)];
         let wanted = wanted.map(|(name, counts)| (name.to_string(), counts));
-        assert_eq!(counts_in(list), HashMap::from(wanted));
-        assert!(counts_in("").is_empty());
+        assert_eq!(counts_in(list).unwrap(), HashMap::from(wanted));
+        assert!(counts_in("").unwrap().is_empty());
     }
 
     #[test]
@@ -281,7 +358,6 @@ mod tests {
     }
 
     #[test]
-    #[cfg(feature = "failpoints")]
     fn passes_that_come_to_the_same_have_their_own_draws() {
         let made = Builder::default().recording(true);
         let seed = [7; 32];
@@ -292,12 +368,17 @@ mod tests {
             node.set("p", "50%3*print(x)->30%off->off").unwrap();
         }
         kept.keep(&mut node).unwrap();
-        let mut wanted = vec![newest(&mut other).unwrap()];
+        let newest = |node: &mut Node| {
+            let (last, mut line) = (node.calls().unwrap() - 1, Vec::new());
+            read_line(node, last, &mut line).unwrap();
+            String::from_utf8(line).unwrap()
+        };
+        let mut wanted = vec![newest(&mut other)];
         for _ in 0..200 {
             let pass = node.pass("p").unwrap();
             kept.keep_pass(&mut node, "p", &pass).unwrap();
             other.pass("p").unwrap();
-            wanted.push(newest(&mut other).unwrap());
+            wanted.push(newest(&mut other));
         }
         let mut drill = Vec::new();
         crate::receipts::write(&[kept.receipts().unwrap()], &mut drill).unwrap();

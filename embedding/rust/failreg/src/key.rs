@@ -15,9 +15,11 @@ const MOST: usize = 1_024;
 /// The scheme of the `Authorization` field.
 const SCHEME: &[u8] = b"Bearer ";
 
-/// A key, as requests contain it: the bytes of its file in lowercase hex. It is never printed.
+/// A key: the bytes of its file, and the same in lowercase hex, as requests contain it. It is never
+/// printed.
 #[derive(Clone)]
 pub(crate) struct Key {
+    bytes: Arc<[u8]>,
     hex: Arc<str>,
 }
 
@@ -51,21 +53,33 @@ impl Key {
         for byte in bytes {
             write!(hex, "{byte:02x}").ok()?;
         }
-        Some(Key { hex: hex.into() })
+        Some(Key {
+            bytes: bytes.into(),
+            hex: hex.into(),
+        })
+    }
+
+    /// Returns the bytes of its file.
+    pub(crate) fn bytes(&self) -> &[u8] {
+        &self.bytes
     }
 
     /// Returns whether the value of an `Authorization` has this key, in the same time for all
     /// values of one length.
     pub(crate) fn is_in(&self, value: &[u8]) -> bool {
-        let Some((scheme, told)) = value.split_at_checked(SCHEME.len()) else {
+        let Some((scheme, mut told)) = value.split_at_checked(SCHEME.len()) else {
             return false;
         };
+        // More spaces may follow the scheme (RFC 9110, section 11.4).
+        while let [b' ', rest @ ..] = told {
+            told = rest;
+        }
         scheme.eq_ignore_ascii_case(SCHEME) && is_same(told, self.hex.as_bytes())
     }
 
-    /// Returns the field of a request that presents the key.
-    pub(crate) fn field(&self) -> String {
-        format!("authorization: Bearer {}\r\n", self.hex)
+    /// Writes the field of a request that presents the key.
+    pub(crate) fn write_field(&self, out: &mut impl Write) -> fmt::Result {
+        write!(out, "authorization: Bearer {}\r\n", self.hex)
     }
 }
 
@@ -75,8 +89,8 @@ impl fmt::Debug for Key {
     }
 }
 
-// Returns whether two texts are the same, after comparing all bytes wherever they first differ.
-fn is_same(told: &[u8], wanted: &[u8]) -> bool {
+/// Returns whether two texts are the same, after comparing all bytes wherever they first differ.
+pub(crate) fn is_same(told: &[u8], wanted: &[u8]) -> bool {
     let differ = |all: u8, (a, b): (&u8, &u8)| black_box(all | (a ^ b));
     told.len() == wanted.len() && told.iter().zip(wanted).fold(0, differ) == 0
 }
@@ -104,7 +118,9 @@ mod tests {
         let bytes: Vec<u8> = (0..32).map(|at| at * 8 + 7).collect();
         let key = Key::of(&bytes).unwrap();
         let hex: String = bytes.iter().map(|byte| format!("{byte:02x}")).collect();
-        assert_eq!(key.field(), format!("authorization: Bearer {hex}\r\n"));
+        let mut field = String::new();
+        key.write_field(&mut field).unwrap();
+        assert_eq!(field, format!("authorization: Bearer {hex}\r\n"));
         let is_in = |value: &str| key.is_in(value.as_bytes());
         assert!(is_in(&format!("Bearer {hex}")) && is_in(&format!("bearer {hex}")));
         let upper = hex.to_ascii_uppercase();

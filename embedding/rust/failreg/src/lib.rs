@@ -32,53 +32,52 @@
 //! The node behind the C calls is proved. This crate isn't: neither its declarations of those
 //! calls, nor its locks, nor how it carries out actions.
 
-mod answers;
+// Without failpoints these modules are used in part.
+#![cfg_attr(not(feature = "failpoints"), allow(dead_code))]
+
 mod builder;
-mod chunks;
-mod date;
 mod environment;
 mod error;
 mod fail_rs;
-mod gossip;
-mod heads;
-mod http;
-mod kept;
-mod key;
-#[cfg(feature = "failpoints")]
-mod node;
-#[cfg(not(feature = "failpoints"))]
-#[path = "no_node.rs"]
-mod node;
-mod page;
-mod part;
-mod passing;
-mod peers;
-mod points;
-mod posting;
+mod peer;
 mod program;
-mod receipts;
 mod recorder;
-mod registry;
-mod serving;
-mod sha256;
-mod tags;
 mod told;
 
-pub use answers::Reply;
+macro_rules! with_failpoints {
+    ($($module:ident),+) => {$(
+        #[cfg(feature = "failpoints")]
+        mod $module;
+    )+};
+}
+
+with_failpoints! {
+    access, answers, bodies, chunks, date, digest, gossip, heads, http, kept, key, lines, memory, node, page, part,
+    passing, points, posting, receipts, registry, serving, sha256, state, tags, unsent
+}
+
+// Without failpoints one module has the same interface.
+#[cfg(not(feature = "failpoints"))]
+mod off;
+#[cfg(not(feature = "failpoints"))]
+use {off as gossip, off as registry, off as serving};
+
 pub use builder::{Builder, OnForgotten, OnRefusal, Recording};
 pub use environment::{Program, from_env};
 pub use error::{Error, ErrorKind};
 #[doc(hidden)]
 pub use fail_rs::eval;
 pub use fail_rs::{FailGuard, FailScenario, cfg, cfg_callback, has_failpoints, list, remove};
-pub use gossip::{Failure, Gossip, Peer, PeerNews, gossip};
+pub use gossip::{Gossip, gossip};
+pub use peer::{Failure, Peer, PeerNews};
+#[cfg(feature = "failpoints")]
 #[doc(hidden)]
 pub use points::Site;
 pub use program::{program, setup};
 pub use recorder::Recorder;
 pub use registry::{Registry, write_drill};
 pub use serving::{Served, Serving, serve};
-pub use told::{Passed, Stamp, Task};
+pub use told::{Passed, Reply, Stamp, Task};
 
 /// Evaluates a point, if it is set, and carries out its action. If the action is `return`,
 /// `fail_point!("name")` panics, and `fail_point!("name", |argument| value)` returns the closure's
@@ -140,6 +139,7 @@ macro_rules! fail_point {
 struct CustomTransport;
 
 // A point with a literal name caches what was found about it.
+#[cfg(feature = "failpoints")]
 #[doc(hidden)]
 #[macro_export]
 macro_rules! eval_point {
@@ -153,6 +153,7 @@ macro_rules! eval_point {
 }
 
 // Calls the closure of a `fail_point!`; fixes the type of its argument.
+#[cfg(feature = "failpoints")]
 #[doc(hidden)]
 pub fn value_of<T>(value: impl FnOnce(Option<String>) -> T, argument: Option<String>) -> T {
     value(argument)

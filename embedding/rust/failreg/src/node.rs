@@ -2,25 +2,105 @@
 //! each passes references and slices of its own, which live as long as the call.
 
 use crate::error::Error;
+use crate::memory::copied;
 use crate::told::{Passed, Stamp, Task};
 use failreg_sys as sys;
 use std::borrow::Cow;
-use std::time::Duration;
+use std::time::{Duration, SystemTime, UNIX_EPOCH};
 
 /// More bytes than any error text has.
 const LONGEST_FAULT: usize = 256;
 
-/// Enough bytes for most results, so that one call fetches them.
-const MOST_FETCHED: usize = 256;
+/// Enough bytes for most results, so that one call fetches them: the bodies of all responses to
+/// calls, for example.
+pub const MOST_FETCHED: usize = 256;
 
 pub struct Node {
     handle: sys::failreg,
+}
+
+/// What is due for another node in a round.
+#[derive(Clone, Copy, Debug, PartialEq, Eq)]
+pub enum Due {
+    Nothing,
+    /// It gets a message.
+    Tell,
+    /// It is asked for a message, because calls wait for one.
+    Ask,
+}
+
+/// What an HTTP request changed.
+#[derive(Clone, Copy, Debug)]
+pub struct Answered {
+    pub status: u16,
+    /// The status of the node's error, if it rejected the request.
+    fault: u32,
+    /// Whether points may be set otherwise than before.
+    pub changes_settings: bool,
+    /// Whether calls waited for the message in the request, and no longer wait.
+    pub has_heard_all: bool,
+}
+
+impl Answered {
+    /// Whether the node rejected a call at its call limit.
+    pub fn is_at_cap(self) -> bool {
+        self.fault == sys::FAILREG_E_TRACE_FULL
+    }
+
+    /// Returns the error of a message that was rejected because others know more about this node than
+    /// it does. `reply` is the body of the response.
+    pub fn forgotten(self, reply: &[u8]) -> Option<Error> {
+        matches!(self.fault, sys::FAILREG_E_OWN_AHEAD | sys::FAILREG_E_ACK_AHEAD).then(|| {
+            let text = std::str::from_utf8(reply).ok().map(copied);
+            let code = match self.fault {
+                sys::FAILREG_E_OWN_AHEAD => "N18",
+                _ => "N19",
+            };
+            let fault = text.and_then(Result::ok).map_or(Cow::from(code), Cow::from);
+            Error::of_status(self.fault, fault)
+        })
+    }
+}
+
+/// An evaluation whose result isn't read yet.
+pub struct Evaluated {
+    status: u32,
+    act: sys::failreg_act,
+}
+
+/// A result that needs nothing of the node.
+pub enum Plain {
+    Nothing,
+    /// The action `return`, without an argument.
+    Return,
+}
+
+impl Evaluated {
+    /// Returns the result, if it needs nothing of the node.
+    #[inline]
+    pub fn plain(&self) -> Option<Plain> {
+        if self.status != sys::FAILREG_OK {
+            return None;
+        }
+        let is_plain_return = self.act.task == sys::FAILREG_TASK_RETURN && !self.act.has_text;
+        match self.act.outcome {
+            sys::FAILREG_OUTCOME_UNSET | sys::FAILREG_OUTCOME_NONE => Some(Plain::Nothing),
+            sys::FAILREG_OUTCOME_ACT if is_plain_return => Some(Plain::Return),
+            _ => None,
+        }
+    }
 }
 
 impl Drop for Node {
     fn drop(&mut self) {
         self.close();
     }
+}
+
+// Returns the milliseconds since 1970, by the machine's clock.
+fn milliseconds() -> u64 {
+    let since = SystemTime::now().duration_since(UNIX_EPOCH);
+    since.map_or(0, |since| u64::try_from(since.as_millis()).unwrap_or(u64::MAX))
 }
 
 // The library returned a value that this crate doesn't have: they weren't built from one tree.
@@ -82,7 +162,7 @@ impl Node {
             sys::FAILREG_E_DIFFERS => "the call does not replay".into(),
             _ => match self.last_fault() {
                 Some(fault) => fault.into(),
-                None => format!("N{status}").into(),
+                None => "the call was rejected, and memory for its error is refused".into(),
             },
         }
     }
@@ -94,8 +174,8 @@ impl Node {
         let (into, room) = (bytes.as_mut_ptr(), bytes.len());
         // SAFETY: the array has so many bytes.
         let status = unsafe { sys::failreg_fault(&mut self.handle, into, room, &mut length) };
-        let text = || String::from_utf8_lossy(&bytes[..length.min(room)]).into_owned();
-        (status == sys::FAILREG_OK).then(text)
+        let text = std::str::from_utf8(&bytes[..length.min(room)]).ok()?;
+        (status == sys::FAILREG_OK).then(|| copied(text).ok())?
     }
 
     // A reader of a name leaves no error text: it rejects bad names, and fails without memory.
@@ -106,21 +186,45 @@ impl Node {
         }
     }
 
-    fn fetch(&mut self) -> Vec<u8> {
-        let mut bytes = vec![0; MOST_FETCHED];
+    fn fetch(&mut self) -> Result<Vec<u8>, Error> {
+        let mut bytes = Vec::new();
+        bytes.try_reserve_exact(MOST_FETCHED)?;
+        self.fetch_into(&mut bytes)?;
+        Ok(bytes)
+    }
+
+    // Replaces these bytes. If they have the room for it, no memory is asked for.
+    fn fetch_into(&mut self, bytes: &mut Vec<u8>) -> Result<(), Error> {
         loop {
-            let (into, room) = (bytes.as_mut_ptr(), bytes.len());
-            // SAFETY: the vector has so many bytes.
-            let length = unsafe { sys::failreg_fetch(&mut self.handle, into, room) };
-            bytes.resize(length, 0);
+            bytes.clear();
+            let (into, room) = (bytes.as_mut_ptr(), bytes.capacity());
+            // SAFETY: the vector has room for so many bytes, and as many of them as are copied have a
+            // value then.
+            let length = unsafe {
+                let length = sys::failreg_fetch(&mut self.handle, into, room);
+                bytes.set_len(length.min(room));
+                length
+            };
             if length <= room {
-                return bytes;
+                return Ok(());
             }
+            bytes.clear();
+            bytes.try_reserve_exact(length)?;
         }
     }
 
-    fn fetch_text(&mut self) -> String {
-        String::from_utf8(self.fetch())
+    fn fetch_text(&mut self) -> Result<String, Error> {
+        let text = String::from_utf8(self.fetch()?);
+        text.map_err(|_| Error::new(crate::ErrorKind::Mismatch, "the text is not UTF-8"))
+    }
+
+    // Returns the text of an action. The evaluation is made, so it can't be an error that memory is
+    // refused.
+    fn task_text(&mut self, length: usize) -> String {
+        let mut text = Vec::with_capacity(length);
+        // It has the room.
+        let _ = self.fetch_into(&mut text);
+        String::from_utf8(text)
             .unwrap_or_else(|other| String::from_utf8_lossy(other.as_bytes()).into_owned())
     }
 
@@ -130,21 +234,15 @@ impl Node {
         // SAFETY: a text and its length.
         let status = unsafe { sys::failreg_part_head(h, run.as_ptr(), run.len()) };
         self.answer(status, ())?;
-        Ok(self.fetch_text())
+        self.fetch_text()
     }
 
-    /// Returns the line of a call of the history, by its number from 0, without a newline.
-    pub fn entry(&mut self, index: u64) -> Result<String, Error> {
+    /// Writes the line of a call of the history, by its number from 0, without a newline, in place
+    /// of these bytes.
+    pub fn entry(&mut self, index: u64, line: &mut Vec<u8>) -> Result<(), Error> {
         let status = sys::failreg_entry(&mut self.handle, index);
         self.answer(status, ())?;
-        Ok(self.fetch_text())
-    }
-
-    /// Returns the line of the newest call.
-    pub fn last_entry(&mut self) -> Result<String, Error> {
-        let calls = self.calls()?;
-        // If there is no call, no call has this number.
-        self.entry(calls.wrapping_sub(1))
+        self.fetch_into(line)
     }
 
     /// Repeats the call of a line.
@@ -207,9 +305,21 @@ impl Node {
     }
 
     pub fn pass_at(&mut self, point: u32) -> Result<Passed, Error> {
+        let evaluated = self.evaluate_at(point);
+        self.result_of(&evaluated)
+    }
+
+    /// Evaluates a point by its number. The result is to be read before the next call.
+    #[inline]
+    pub fn evaluate_at(&mut self, point: u32) -> Evaluated {
         let mut act = sys::failreg_act::default();
         let status = sys::failreg_pass_at(&mut self.handle, point, &mut act);
-        self.passed(status, &act)
+        Evaluated { status, act }
+    }
+
+    /// Returns the result of the last call, an evaluation.
+    pub fn result_of(&mut self, evaluated: &Evaluated) -> Result<Passed, Error> {
+        self.passed(evaluated.status, &evaluated.act)
     }
 
     fn passed(&mut self, status: u32, act: &sys::failreg_act) -> Result<Passed, Error> {
@@ -231,7 +341,7 @@ impl Node {
     }
 
     fn task_of(&mut self, act: &sys::failreg_act) -> Result<Task, Error> {
-        let text = act.has_text.then(|| self.fetch_text());
+        let text = act.has_text.then(|| self.task_text(act.text_len as usize));
         let time = Duration::from_millis(act.millis);
         Ok(match act.task {
             sys::FAILREG_TASK_OFF => Task::Off,
@@ -313,44 +423,94 @@ impl Node {
         self.answer(status, stamp.into())
     }
 
-    pub fn emit(&mut self, to: u8) -> Result<Vec<u8>, Error> {
+    /// Makes a message, and returns it, or the error of a refused allocation: the call is made then,
+    /// too.
+    pub fn emit(&mut self, to: u8) -> Result<Result<Vec<u8>, Error>, Error> {
         let status = sys::failreg_emit(&mut self.handle, to);
         self.answer(status, ())?;
         Ok(self.fetch())
     }
 
+    /// Accepts a message now.
     pub fn deliver(&mut self, message: &[u8]) -> Result<bool, Error> {
         let mut changed = false;
         let (at, len) = (message.as_ptr(), message.len());
+        let h = &mut self.handle;
         // SAFETY: bytes and how many they are.
-        let status = unsafe { sys::failreg_deliver(&mut self.handle, at, len, &mut changed) };
+        let status = unsafe { sys::failreg_deliver_at(h, at, len, milliseconds(), &mut changed) };
         self.answer(status, changed)
     }
 
-    /// Handles an HTTP request. Returns the status and the body of the response.
+    /// From now on calls of requests wait until each other node was heard.
+    pub fn hear_first(&mut self) {
+        sys::failreg_hear_first(&mut self.handle);
+    }
+
+    /// Returns the first node that calls wait for.
+    pub fn awaited(&mut self) -> Option<u8> {
+        let mut peer = sys::FAILREG_NOBODY;
+        sys::failreg_awaited(&mut self.handle, &mut peer);
+        (peer != sys::FAILREG_NOBODY).then_some(peer)
+    }
+
+    /// Looks at another node, once in a round. Returns what is due for it.
+    pub fn due(&mut self, peer: u8) -> Result<Due, Error> {
+        let mut due = 0;
+        let status = sys::failreg_due(&mut self.handle, peer, &mut due);
+        self.answer(status, ())?;
+        Ok(match due {
+            sys::FAILREG_DUE_NOTHING => Due::Nothing,
+            sys::FAILREG_DUE_TELL => Due::Tell,
+            sys::FAILREG_DUE_ASK => Due::Ask,
+            other => return Err(unknown("what is due,", other)),
+        })
+    }
+
+    /// Notes that another node accepted the message that was due, or that it didn't.
+    pub fn note_sent(&mut self, peer: u8, is_accepted: bool) {
+        match is_accepted {
+            true => sys::failreg_told(&mut self.handle, peer),
+            false => sys::failreg_missed(&mut self.handle, peer),
+        };
+    }
+
+    /// Handles an HTTP request now. Returns the status of the response and what the request changed, and
+    /// leaves the body in `reply`, which has room for `MOST_FETCHED` bytes: so a response to a call
+    /// takes no memory. If a longer one can't have it, the status is 503, without a body.
     pub fn reply_to(
         &mut self,
         method: &str,
         path: &str,
         body: &[u8],
-    ) -> Result<(u16, Vec<u8>), Error> {
-        let mut status = 0;
-        let h = &mut self.handle;
+        reply: &mut Vec<u8>,
+    ) -> Result<Answered, Error> {
+        let mut told = sys::failreg_answered::default();
+        let (h, now) = (&mut self.handle, milliseconds());
         let (at, at_len) = (path.as_ptr(), path.len());
         let (sent, sent_len) = (body.as_ptr(), body.len());
         // SAFETY: two texts and bytes, each with its length.
         let answered = unsafe {
             let (by, by_len) = (method.as_ptr(), method.len());
-            sys::failreg_answer(h, by, by_len, at, at_len, sent, sent_len, &mut status)
+            sys::failreg_answer_at(h, by, by_len, at, at_len, sent, sent_len, now, &mut told)
         };
         self.answer(answered, ())?;
-        Ok((status, self.fetch()))
+        let mut answered = Answered {
+            status: told.status,
+            fault: told.fault.into(),
+            changes_settings: told.changes_settings,
+            has_heard_all: told.has_heard_all,
+        };
+        if self.fetch_into(reply).is_err() {
+            reply.clear();
+            answered.status = 503;
+        }
+        Ok(answered)
     }
 
     pub fn list(&mut self) -> Result<String, Error> {
         let status = sys::failreg_list(&mut self.handle);
         self.answer(status, ())?;
-        Ok(self.fetch_text())
+        self.fetch_text()
     }
 
     pub fn spent(&mut self, name: &str, term: u8) -> Result<u128, Error> {

@@ -3,9 +3,9 @@
 
 use crate::builder::Builder;
 use crate::error::{Error, ErrorKind};
-use crate::kept::not_recorded;
+use crate::memory::extend;
 use crate::node::Node;
-use crate::registry::MOST_KEPT;
+use crate::state::MOST_KEPT;
 use std::fs::{File, OpenOptions, TryLockError};
 use std::io::{self, BufRead, BufReader, Read, Write};
 use std::path::Path;
@@ -110,29 +110,30 @@ impl Part {
         self.writer.is_some()
     }
 
-    /// Writes a line, with its newline, after those that wait; or adds it to them, if it may wait.
-    pub fn put(&self, line: &str, may_wait: bool) -> Result<(), Error> {
+    /// Writes a line, with its newline, after those that wait; or adds it to them, if it may wait
+    /// and there is memory for it.
+    pub fn put(&self, line: &[u8], may_wait: bool) -> Result<(), Error> {
         let mut lines = self.shared.lock();
-        if may_wait && self.is_buffered() && lines.waiting.len() < MOST_WAITING {
-            lines.waiting.extend_from_slice(line.as_bytes());
+        let may_wait = may_wait && self.is_buffered() && lines.waiting.len() < MOST_WAITING;
+        if may_wait && extend(&mut lines.waiting, line).is_ok() {
             if lines.is_idle {
                 lines.is_idle = false;
                 self.shared.changed.notify_one();
             }
             // After a failed write nothing is written, and this line's error says so.
-            return lines.goes_on().map_err(not_recorded);
+            return lines.check().map_err(Error::not_recorded);
         }
-        lines.write(line.as_bytes()).map_err(not_recorded)
+        lines.write(line).map_err(Error::not_recorded)
     }
 
-    /// Writes the lines that wait. `goes_on` returns the error if that fails.
+    /// Writes the lines that wait. `check` returns the error if that fails.
     pub fn flush(&self) {
         _ = self.shared.lock().write(b"");
     }
 
     /// Returns the error of the first write that failed.
-    pub fn goes_on(&self) -> Result<(), Error> {
-        self.shared.lock().goes_on().map_err(|why| {
+    pub fn check(&self) -> Result<(), Error> {
+        self.shared.lock().check().map_err(|why| {
             let fault = format!("an earlier call could not be recorded ({why})");
             Error::new(ErrorKind::RecordingFailed, fault)
         })
@@ -182,31 +183,41 @@ impl Shared {
 }
 
 impl Lines {
-    fn goes_on(&self) -> Result<(), &str> {
+    fn check(&self) -> Result<(), &str> {
         self.out.is_some().then_some(()).ok_or(&self.fault)
     }
 
-    // Writes the waiting lines and this line in one write, and closes the file if it fails.
+    // Writes the waiting lines and this line, in one write if it is short, and closes the file if
+    // that fails.
     fn write(&mut self, line: &[u8]) -> Result<(), &str> {
         let Some(mut out) = self.out.take() else {
             return Err(&self.fault);
         };
-        let written = match self.waiting.is_empty() {
-            true if line.is_empty() => Ok(()),
-            true => out.write_all(line).and_then(|()| out.flush()),
-            false => {
-                self.waiting.extend_from_slice(line);
-                let written = out.write_all(&self.waiting).and_then(|()| out.flush());
-                self.waiting.clear();
-                written
-            }
+        let is_short = line.len() <= MOST_WAITING && !self.waiting.is_empty();
+        let written = match is_short && extend(&mut self.waiting, line).is_ok() {
+            true => write_pieces(&mut out, [&self.waiting, b""]),
+            false => write_pieces(&mut out, [&self.waiting, line]),
         };
+        self.waiting.clear();
         match written {
             Ok(()) => self.out = Some(out),
             Err(error) => self.fault = error.to_string(),
         }
-        self.goes_on()
+        self.check()
     }
+}
+
+// Writes the pieces that aren't empty, and flushes them.
+fn write_pieces(out: &mut impl Write, pieces: [&[u8]; 2]) -> io::Result<()> {
+    let mut pieces = pieces
+        .into_iter()
+        .filter(|piece| !piece.is_empty())
+        .peekable();
+    if pieces.peek().is_none() {
+        return Ok(());
+    }
+    pieces.try_for_each(|piece| out.write_all(piece))?;
+    out.flush()
 }
 
 fn bad(fault: String) -> Error {
@@ -390,14 +401,14 @@ mod tests {
         for (room, is_buffered) in (0..24).flat_map(|room| [(room, false), (room, true)]) {
             let out = Narrow::new(room);
             let part = Part::to(out.clone(), is_buffered).unwrap();
-            let told: Vec<_> = (0..4).map(|_| part.put("12345\n", false)).collect();
+            let told: Vec<_> = (0..4).map(|_| part.put(b"12345\n", false)).collect();
             let kept = told.iter().take_while(|told| told.is_ok()).count();
             assert_eq!(kept, room / 6, "{room} bytes");
             let kinds = told[kept..]
                 .iter()
                 .map(|it| it.as_ref().unwrap_err().kind());
             assert!(kinds.eq(vec![ErrorKind::NotRecorded; 4 - kept]));
-            let after = part.goes_on().unwrap_err();
+            let after = part.check().unwrap_err();
             assert_eq!(after.kind(), ErrorKind::RecordingFailed);
             assert!(after.fault().contains("no storage space"), "{after}");
             assert_eq!(out.pieces().concat(), "12345\n".repeat(4)[..room]);
@@ -408,16 +419,16 @@ mod tests {
     fn lines_share_a_write() {
         let out = Narrow::new(usize::MAX);
         let part = Part::to(out.clone(), true).unwrap();
-        part.put("a\n", true).unwrap();
-        part.put("b\n", true).unwrap();
+        part.put(b"a\n", true).unwrap();
+        part.put(b"b\n", true).unwrap();
         assert!(out.pieces().is_empty());
-        part.put("c\n", false).unwrap();
+        part.put(b"c\n", false).unwrap();
         assert_eq!(out.pieces(), ["a\nb\nc\n"]);
-        part.put("d\n", true).unwrap();
+        part.put(b"d\n", true).unwrap();
         part.flush();
         part.flush();
         assert_eq!(out.pieces(), ["a\nb\nc\n", "d\n"]);
-        part.put("e\n", true).unwrap();
+        part.put(b"e\n", true).unwrap();
         drop(part);
         assert_eq!(out.pieces()[2..], ["e\n"]);
     }
@@ -428,7 +439,7 @@ mod tests {
         let part = Part::to(out.clone(), true).unwrap();
         for times in 1..4 {
             let begun = Instant::now();
-            part.put("a\n", true).unwrap();
+            part.put(b"a\n", true).unwrap();
             while out.pieces().len() < times {
                 assert!(begun.elapsed() < Duration::from_secs(10));
                 thread::sleep(Duration::from_millis(1));
@@ -437,20 +448,20 @@ mod tests {
         }
         // As many as there is room for.
         let line = "a".repeat(MOST_WAITING / 4 - 1) + "\n";
-        (0..4).for_each(|_| part.put(&line, true).unwrap());
-        part.put("b\n", true).unwrap();
+        (0..4).for_each(|_| part.put(line.as_bytes(), true).unwrap());
+        part.put(b"b\n", true).unwrap();
         assert!(out.pieces().last().unwrap().ends_with("\nb\n"));
     }
 
     #[test]
     fn what_waited_and_is_lost_is_told() {
         let part = Part::to(Narrow::new(0), true).unwrap();
-        part.put("a\n", true).unwrap();
+        part.put(b"a\n", true).unwrap();
         part.flush();
         let kinds = [
-            part.put("b\n", true),
-            part.put("c\n", false),
-            part.goes_on(),
+            part.put(b"b\n", true),
+            part.put(b"c\n", false),
+            part.check(),
         ];
         let kinds = kinds.map(|it| it.unwrap_err().kind());
         let not = ErrorKind::NotRecorded;
@@ -472,11 +483,11 @@ mod tests {
         let part = Arc::new(Part::to(Panics, false).unwrap());
         let other = part.clone();
         assert!(
-            thread::spawn(move || other.put("a\n", false))
+            thread::spawn(move || other.put(b"a\n", false))
                 .join()
                 .is_err()
         );
-        let after = part.goes_on().unwrap_err();
+        let after = part.check().unwrap_err();
         assert_eq!(after.kind(), ErrorKind::RecordingFailed);
     }
 

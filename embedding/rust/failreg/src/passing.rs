@@ -1,8 +1,10 @@
 //! Evaluations that carry out their actions, as fail-rs does.
 
 use crate::error::Error;
+use crate::node::{Evaluated, Plain};
 use crate::points::Site;
-use crate::registry::{Registry, State};
+use crate::registry::Registry;
+use crate::state::State;
 use crate::told::{Passed, Stamp, Task};
 use std::sync::MutexGuard;
 use std::time::{Duration, Instant};
@@ -19,7 +21,7 @@ impl Registry {
     }
 
     fn eval_set(&self, name: &str) -> Option<Option<String>> {
-        let mut state = self.lock();
+        let mut state = self.lock_to_evaluate();
         if !state.is_set(name) {
             return None;
         }
@@ -38,11 +40,44 @@ impl Registry {
     }
 
     fn eval_set_at(&self, site: &Site, name: &str) -> Option<Option<String>> {
-        let mut state = self.lock();
+        let mut state = self.lock_to_evaluate();
         if !self.shown.is_set_at(site, || state.is_set(name)) {
             return None;
         }
-        let passed = self.pass_at(&mut state, name, site);
+        match site.point_of(state.id) {
+            Some(point) if state.only_evaluates() => self.eval_plain(state, name, point),
+            _ => {
+                let passed = self.pass_at(&mut state, name, site);
+                self.obey(state, name, passed)
+            }
+        }
+    }
+
+    // Evaluates a point by its number, at a registry that does nothing else for an evaluation.
+    #[inline]
+    fn eval_plain(
+        &self,
+        mut state: MutexGuard<'_, State>,
+        name: &str,
+        point: u32,
+    ) -> Option<Option<String>> {
+        let evaluated = state.node.evaluate_at(point);
+        match evaluated.plain() {
+            Some(Plain::Nothing) => None,
+            Some(Plain::Return) => Some(None),
+            None => self.obey_evaluated(state, name, &evaluated),
+        }
+    }
+
+    // Carries out an evaluation whose result needs more.
+    #[cold]
+    fn obey_evaluated(
+        &self,
+        mut state: MutexGuard<'_, State>,
+        name: &str,
+        evaluated: &Evaluated,
+    ) -> Option<Option<String>> {
+        let passed = self.pass_in(&mut state, name, |node| node.result_of(evaluated));
         self.obey(state, name, passed)
     }
 

@@ -1,6 +1,7 @@
 //! The points that are set, for threads that read them without a lock.
 
-use std::collections::HashSet;
+use crate::memory::copied;
+use std::collections::{HashSet, TryReserveError};
 use std::sync::atomic::{AtomicU64, Ordering};
 
 const WORDS: usize = 256;
@@ -148,9 +149,13 @@ impl Shown {
 
 /// Returns the names of a list `name=actions;name=actions`. No action string has a `;`, and no name
 /// a `=`.
-pub fn names_in(list: &str) -> HashSet<String> {
-    let names = list.split(';').filter_map(|entry| entry.split_once('='));
-    names.map(|(name, _)| name.to_string()).collect()
+pub fn names_in(list: &str) -> Result<HashSet<String>, TryReserveError> {
+    let mut names = HashSet::new();
+    for (name, _) in list.split(';').filter_map(|entry| entry.split_once('=')) {
+        names.try_reserve(1)?;
+        names.insert(copied(name)?);
+    }
+    Ok(names)
 }
 
 #[cfg(test)]
@@ -174,8 +179,8 @@ mod tests {
 
     #[test]
     fn a_list_has_names() {
-        let names = names_in("a=off;b.c=1*return(x=y)->off");
+        let names = names_in("a=off;b.c=1*return(x=y)->off").unwrap();
         assert_eq!(names, HashSet::from(["a".into(), "b.c".into()]));
-        assert!(names_in("").is_empty());
+        assert!(names_in("").unwrap().is_empty());
     }
 }

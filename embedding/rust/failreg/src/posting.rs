@@ -1,55 +1,96 @@
 //! Messages posted to another served node.
 
-use crate::heads::MAX_HEAD;
+use crate::digest;
 use crate::http::{read_by, write_by};
 use crate::key::Key;
+use crate::memory::Fixed;
+use std::fmt::{self, Write};
 use std::io::{self, ErrorKind};
 use std::net::{SocketAddr, TcpStream};
 use std::time::Instant;
 
+/// More bytes than a request's head has, with the longest key.
+const ROOM_OF_FRONT: usize = 4_096;
+
+/// How many bytes of a response are read: more than any response to a message has.
+const ROOM_OF_REPLY: usize = 8_192;
+
+/// Where messages are posted to.
+pub const MESSAGES: &str = "/gossip";
+
+/// What a peer responds to a message.
+pub struct PeerReply {
+    /// Its status, if it is a response of HTTP.
+    pub status: Option<u16>,
+    bytes: [u8; ROOM_OF_REPLY],
+    length: usize,
+}
+
+impl PeerReply {
+    /// Returns what follows the head.
+    pub fn body(&self) -> &[u8] {
+        const END: &[u8] = b"\r\n\r\n";
+        let bytes = &self.bytes[..self.length];
+        let place = bytes.windows(END.len()).position(|it| it == END);
+        place.map_or(&[], |place| &bytes[place + END.len()..])
+    }
+}
+
 /// Posts a body to a path of the node at this address, with the key, if there is one. Returns the
-/// status of the response.
+/// response. It takes no memory.
 pub fn post(
     stream: &TcpStream,
     (addr, path): (SocketAddr, &str),
     key: Option<&Key>,
     body: &[u8],
     end: Instant,
-) -> io::Result<(u16, Vec<u8>)> {
-    let length = body.len();
-    // The scope of an address is valid only on this machine.
-    let host = SocketAddr::new(addr.ip(), addr.port());
-    let key = key.map_or(String::new(), Key::field);
-    let head = format!(
-        "POST {path} HTTP/1.1\r\nhost: {host}\r\n{key}connection: close\r\n\
-         content-length: {length}\r\n\r\n"
-    );
-    write_by(stream, head.as_bytes(), end)?;
-    write_by(stream, body, end)?;
-    let (mut line, mut piece) = (Vec::new(), [0; 256]);
-    while line.len() < 12 {
-        match read_by(stream, &mut piece, end)? {
+) -> io::Result<PeerReply> {
+    let front =
+        front_of((addr, path), key, body).map_err(|_| io::Error::from(ErrorKind::InvalidInput))?;
+    write_by(stream, [front.bytes(), body], end)?;
+    let (mut bytes, mut length) = ([0; ROOM_OF_REPLY], 0);
+    while length < 12 {
+        match read_by(stream, &mut bytes[length..], end)? {
             0 => break,
-            read => line.extend_from_slice(&piece[..read]),
+            read => length += read,
         }
     }
-    let no_reply = || io::Error::new(ErrorKind::InvalidData, "no reply of HTTP");
-    let status = status_of(&line).ok_or_else(no_reply)?;
+    let status = status_of(&bytes[..length]);
     // Why the message was rejected, if the response is readable.
-    while status == 400 && line.len() < MAX_HEAD {
-        match read_by(stream, &mut piece, end) {
+    while status == Some(400) && length < bytes.len() {
+        match read_by(stream, &mut bytes[length..], end) {
             Ok(0) | Err(_) => break,
-            Ok(read) => line.extend_from_slice(&piece[..read]),
+            Ok(read) => length += read,
         }
     }
-    Ok((status, body_of(line)))
+    Ok(PeerReply {
+        status,
+        bytes,
+        length,
+    })
 }
 
-// Returns what follows the head of a response.
-fn body_of(reply: Vec<u8>) -> Vec<u8> {
-    const END: &[u8] = b"\r\n\r\n";
-    let place = reply.windows(END.len()).position(|bytes| bytes == END);
-    place.map_or(Vec::new(), |place| reply[place + END.len()..].to_vec())
+fn front_of(
+    (addr, path): (SocketAddr, &str),
+    key: Option<&Key>,
+    body: &[u8],
+) -> Result<Fixed<ROOM_OF_FRONT>, fmt::Error> {
+    let mut front = Fixed::new();
+    // The scope of an address is valid only on this machine.
+    let host = SocketAddr::new(addr.ip(), addr.port());
+    write!(front, "POST {path} HTTP/1.1\r\nhost: {host}\r\n")?;
+    if let Some(key) = key {
+        key.write_field(&mut front)?;
+    }
+    if path == MESSAGES {
+        digest::write_fields(&mut front, key, body)?;
+    }
+    let length = body.len();
+    write!(
+        front,
+        "connection: close\r\ncontent-length: {length}\r\n\r\n"
+    )?;
+    Ok(front)
 }
 
 // Returns the status of a response that starts like this.

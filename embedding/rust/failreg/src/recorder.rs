@@ -1,8 +1,10 @@
 //! Recordings that are written call by call.
 
 use crate::error::{Error, ErrorKind};
-use crate::kept::not_recorded;
-use crate::receipts::receipt_of;
+#[cfg(feature = "failpoints")]
+use crate::receipts::write_receipt;
+#[cfg(feature = "failpoints")]
+use std::collections::TryReserveError;
 use std::fmt;
 use std::fs::File;
 use std::io::{self, Write};
@@ -42,6 +44,13 @@ pub struct Recorder {
     /// after the lock of a registry, never before.
     shared: Arc<Mutex<Drill>>,
 }
+
+/// More bytes than the lines of a call have beside twice its entry.
+#[cfg(feature = "failpoints")]
+const MOST_BESIDE: usize = 256;
+
+/// How much room for lines stays.
+const MOST_ROOM: usize = 131_072;
 
 /// A recording in progress.
 struct Drill {
@@ -97,19 +106,6 @@ impl Recorder {
         *written = Some(0);
         Ok(())
     }
-
-    /// Returns the error if a call couldn't be written.
-    pub(crate) fn goes_on(&self) -> Result<(), Error> {
-        match self.lock().out {
-            Some(_) => Ok(()),
-            None => Err(failed("an earlier call could not be recorded")),
-        }
-    }
-
-    /// Writes a call that a node accepted, whose entry has this line.
-    pub(crate) fn write(&self, node: u8, entry: &str) -> Result<(), Error> {
-        self.lock().write_call(node, entry).map_err(not_recorded)
-    }
 }
 
 impl Drill {
@@ -126,17 +122,6 @@ impl Drill {
         self.hand_out()
     }
 
-    // Writes a piece of the node's call history and one of its list, each with the next line.
-    fn write_call(&mut self, node: u8, entry: &str) -> io::Result<()> {
-        let written = &mut self.nodes[usize::from(node)];
-        let index = written.unwrap_or(0);
-        *written = Some(index + 1);
-        writeln!(self.lines, "{{\"trace\":{node},\"from\":{index}}}\n{entry}")?;
-        writeln!(self.lines, "{{\"list\":{node},\"from\":{index}}}")?;
-        writeln!(self.lines, "{}", receipt_of(entry, node, index))?;
-        self.hand_out()
-    }
-
     // Passes the lines to the writer, and drops it if it fails.
     fn hand_out(&mut self) -> io::Result<()> {
         let Some(mut out) = self.out.take() else {
@@ -145,11 +130,56 @@ impl Drill {
         out.write_all(&self.lines)?;
         out.flush()?;
         self.lines.clear();
+        if self.lines.capacity() > MOST_ROOM {
+            self.lines = Vec::new();
+        }
         self.out = Some(out);
         Ok(())
     }
 }
 
+// Without failpoints no node accepts a call.
+#[cfg(feature = "failpoints")]
+impl Recorder {
+    /// Returns the error if a call couldn't be written.
+    pub(crate) fn check(&self) -> Result<(), Error> {
+        match self.lock().out {
+            Some(_) => Ok(()),
+            None => Err(failed("an earlier call could not be recorded")),
+        }
+    }
+
+    /// Makes room for the lines of a call whose entry has a line of this length.
+    pub(crate) fn make_room(&self, length: usize) -> Result<(), TryReserveError> {
+        self.lock().lines.try_reserve(2 * length + MOST_BESIDE)
+    }
+
+    /// Writes a call that a node accepted, whose entry has this line.
+    pub(crate) fn write(&self, node: u8, entry: &[u8]) -> Result<(), Error> {
+        let mut drill = self.lock();
+        // Here and not below: a call without memory for its lines isn't one that couldn't be written.
+        drill.lines.try_reserve(2 * entry.len() + MOST_BESIDE)?;
+        drill.write_call(node, entry).map_err(Error::not_recorded)
+    }
+}
+
+#[cfg(feature = "failpoints")]
+impl Drill {
+    // Writes a piece of the node's call history and one of its list, each with the next line.
+    fn write_call(&mut self, node: u8, entry: &[u8]) -> io::Result<()> {
+        let written = &mut self.nodes[usize::from(node)];
+        let index = written.unwrap_or(0);
+        *written = Some(index + 1);
+        let lines = &mut self.lines;
+        writeln!(lines, "{{\"trace\":{node},\"from\":{index}}}")?;
+        lines.extend_from_slice(entry);
+        writeln!(lines, "\n{{\"list\":{node},\"from\":{index}}}")?;
+        write_receipt(lines, entry, node, index)?;
+        self.hand_out()
+    }
+}
+
+#[cfg(feature = "failpoints")]
 fn failed(fault: &'static str) -> Error {
     Error::new(ErrorKind::RecordingFailed, fault)
 }
@@ -169,7 +199,7 @@ impl fmt::Debug for Recorder {
     }
 }
 
-#[cfg(test)]
+#[cfg(all(test, feature = "failpoints"))]
 mod tests {
     use super::*;
 
@@ -208,7 +238,7 @@ mod tests {
         (Recorder::new(out), text)
     }
 
-    const PASS: &str = r#"{"ask":["pass","p"],"reply":["unset"],"words":[7]}"#;
+    const PASS: &[u8] = br#"{"ask":["pass","p"],"reply":["unset"],"words":[7]}"#;
 
     const BEGUN: &str = r#"{"failreg":"drill","version":2}
 {"trace":0}
@@ -266,7 +296,7 @@ mod tests {
                 false => ErrorKind::RecordingFailed,
             };
             assert_eq!(failed, wanted, "{room} bytes");
-            let after = recorder.goes_on().unwrap_err();
+            let after = recorder.check().unwrap_err();
             assert_eq!(after.kind(), ErrorKind::RecordingFailed);
             assert_eq!(
                 recorder.write(1, PASS).unwrap_err().kind(),
@@ -295,7 +325,7 @@ mod tests {
         let recorder = Recorder::new(Panics);
         let other = recorder.clone();
         assert!(std::thread::spawn(move || other.open(0, 1)).join().is_err());
-        let after = recorder.goes_on().unwrap_err();
+        let after = recorder.check().unwrap_err();
         assert_eq!(after.kind(), ErrorKind::RecordingFailed);
     }
 }

@@ -2,19 +2,17 @@
 
 use crate::builder::{Builder, How, OnForgotten};
 use crate::error::{Error, ErrorKind};
-use crate::fail_rs::has_failpoints;
 use crate::kept::Kept;
 use crate::key::Key;
 use crate::node::Node;
-use crate::peers::{Peers, not_heard};
 use crate::points::{Shown, names_in};
 use crate::receipts;
+use crate::state::{Callback, State};
 use crate::told::{Passed, Stamp};
-use std::collections::{HashMap, HashSet};
+use std::collections::HashSet;
 use std::fmt;
 use std::io::{self, Write};
 use std::panic::{RefUnwindSafe, UnwindSafe};
-use std::sync::atomic::{AtomicU64, Ordering};
 use std::sync::{Arc, Condvar, Mutex, MutexGuard, TryLockError};
 
 /// How often a thread finds the lock taken and pauses before it sleeps. A call holds the lock for
@@ -45,125 +43,10 @@ pub struct Registry {
     /// Notified under the lock of each change of configurations, and of the end of all changes.
     pub(crate) changed: Condvar,
     /// Whether the node resumed from a journal with calls.
-    goes_on: bool,
+    has_resumed: bool,
     pub(crate) made: Builder,
     /// The key that clients must present, and that the node sends to its peers.
     pub(crate) key: Option<Key>,
-}
-
-pub(crate) type Callback = Arc<dyn Fn() + Send + Sync>;
-
-/// What the lock of a registry guards.
-pub(crate) struct State {
-    pub(crate) node: Node,
-    /// Unique among the program's nodes.
-    pub(crate) id: u64,
-    /// The points that are set; `None` if the allocation of the set failed, and the node itself has
-    /// to be queried.
-    names: Option<HashSet<String>>,
-    /// The closure that an evaluation of a point calls while it is set under this version.
-    callbacks: HashMap<String, (Stamp, Callback)>,
-    kept: Kept,
-    /// How often the lock was taken since the node discarded its call history: at least as often as
-    /// it was called.
-    turns: u32,
-    /// Whether no configuration changes any more.
-    pub(crate) is_over: bool,
-    /// Whether the loss of the node's state was reported.
-    has_forgotten: bool,
-    pub(crate) peers: Peers,
-    /// Whether calls are rejected until a message from each other node has arrived.
-    pub(crate) waits: bool,
-}
-
-/// The most calls in a node's history, so that memory doesn't grow with evaluations.
-pub(crate) const MOST_KEPT: u32 = 1024;
-
-fn id_of_a_node() -> u64 {
-    /// The number of nodes that the program has opened, which numbers them. It orders no memory
-    /// access.
-    static NODES: AtomicU64 = AtomicU64::new(0);
-    NODES.fetch_add(1, Ordering::Relaxed)
-}
-
-impl State {
-    fn of(made: &Builder) -> Result<State, Error> {
-        let seed = made.seed_of_this_run();
-        let mut node = Node::open(made.number, made.nodes, made.cap, &seed)?;
-        let kept = Kept::of(made, &mut node)?;
-        let peers = Peers::of(made.number, made.nodes);
-        let waits = made.hears_first && has_failpoints() && peers.first_unheard().is_some();
-        Ok(State {
-            node,
-            id: id_of_a_node(),
-            names: Some(HashSet::new()),
-            callbacks: HashMap::new(),
-            kept,
-            turns: 0,
-            is_over: false,
-            has_forgotten: false,
-            peers,
-            waits,
-        })
-    }
-
-    /// Whether calls are accepted yet: they may wait for a message from a node.
-    pub(crate) fn has_heard(&self) -> Result<(), Error> {
-        let awaited = self.waits.then(|| self.peers.first_unheard()).flatten();
-        awaited.map_or(Ok(()), |node| Err(not_heard(node)))
-    }
-
-    /// Notes the result of a message. Returns whether calls were waiting for it.
-    pub(crate) fn note(&mut self, message: &[u8], refusal: Option<&str>) -> bool {
-        self.peers.note(message, refusal);
-        let was_waiting = self.waits;
-        self.waits = was_waiting && self.peers.first_unheard().is_some();
-        was_waiting && !self.waits
-    }
-
-    pub(crate) fn is_set(&mut self, name: &str) -> bool {
-        match &self.names {
-            Some(names) => names.contains(name),
-            None => self.node.is_set(name).unwrap_or(false),
-        }
-    }
-
-    /// The closure that an evaluation of the point under this version calls, if there is one.
-    pub(crate) fn callback(&self, name: &str, stamp: Stamp) -> Option<Callback> {
-        let (since, run) = self.callbacks.get(name)?;
-        (*since == stamp).then(|| run.clone())
-    }
-
-    /// Discards the node's call history every so many calls: nothing here reads it again, because a
-    /// recording gets each call at once.
-    fn forget_if_many(&mut self) {
-        self.turns += 1;
-        if self.turns >= MOST_KEPT {
-            self.node.forget();
-            self.turns = 0;
-        }
-    }
-
-    /// Removes and returns the callbacks of points that have another configuration by now, or none.
-    fn callbacks_over(&mut self) -> Vec<Callback> {
-        let State {
-            node, callbacks, ..
-        } = self;
-        let is_over = |(name, (stamp, _)): &(&String, &(Stamp, Callback))| {
-            matches!(node.is_pause_over(name, *stamp), Ok(true))
-        };
-        let over: Vec<String> = callbacks
-            .iter()
-            .filter(is_over)
-            .map(|(name, _)| name.clone())
-            .collect();
-        let taken = over.iter().filter_map(|name| callbacks.remove(name));
-        taken.map(|(_, run)| run).collect()
-    }
-
-    fn all_callbacks(&mut self) -> Vec<Callback> {
-        self.callbacks.drain().map(|(_, (_, run))| run).collect()
-    }
 }
 
 impl Registry {
@@ -206,16 +89,16 @@ impl Registry {
             None => None,
         };
         let mut state = State::of(&made)?;
-        let goes_on = state.node.calls()? > 0;
+        let has_resumed = state.node.calls()? > 0;
         let registry = Registry {
             shown: Shown::new(),
             state: Mutex::new(state),
             changed: Condvar::new(),
-            goes_on,
+            has_resumed,
             made,
             key,
         };
-        if goes_on {
+        if has_resumed {
             drop(registry.settings_changed(&mut registry.lock()));
         }
         Ok(registry)
@@ -246,8 +129,8 @@ impl Registry {
             .unwrap_or_else(|poisoned| poisoned.into_inner())
     }
 
-    // Makes a call that changes the node, and records it with `keep`. The call may have to wait for
-    // messages from other nodes.
+    // Makes an evaluation, and records it with `keep`. It may have to wait for messages from other
+    // nodes.
     fn make<T>(
         &self,
         state: &mut State,
@@ -255,17 +138,41 @@ impl Registry {
         keep: impl FnOnce(&mut Kept, &mut Node, &T) -> Result<(), Error>,
     ) -> Result<T, Error> {
         state.has_heard()?;
-        self.make_at_once(state, make, keep)
+        self.may_be_called(state)?;
+        self.make_now(state, make, keep)
     }
 
-    // Like `make`, for a call that waits for nobody.
-    fn make_at_once<T>(
+    // Like `make`, for a call that is no evaluation and is given this many bytes. There is room for
+    // its line before it is made.
+    fn call<T>(
+        &self,
+        state: &mut State,
+        given: usize,
+        make: impl FnOnce(&mut Node) -> Result<T, Error>,
+    ) -> Result<T, Error> {
+        state.has_heard()?;
+        self.call_at_once(state, given, make, Kept::keep)
+    }
+
+    // Like `call`, for a call that waits for nobody.
+    fn call_at_once<T>(
+        &self,
+        state: &mut State,
+        given: usize,
+        make: impl FnOnce(&mut Node) -> Result<T, Error>,
+        keep: impl FnOnce(&mut Kept, &mut Node) -> Result<(), Error>,
+    ) -> Result<T, Error> {
+        self.may_be_called(state)?;
+        state.kept.make_room(given)?;
+        self.make_now(state, make, |kept, node, _| keep(kept, node))
+    }
+
+    fn make_now<T>(
         &self,
         state: &mut State,
         make: impl FnOnce(&mut Node) -> Result<T, Error>,
         keep: impl FnOnce(&mut Kept, &mut Node, &T) -> Result<(), Error>,
     ) -> Result<T, Error> {
-        self.may_be_called(state)?;
         let answer = make(&mut state.node);
         match &answer {
             Ok(value) => self.keep(state, |kept, node| keep(kept, node, value))?,
@@ -275,28 +182,12 @@ impl Registry {
         answer
     }
 
-    // Like `make`, for a call that is no evaluation.
-    fn call<T>(
-        &self,
-        state: &mut State,
-        make: impl FnOnce(&mut Node) -> Result<T, Error>,
-    ) -> Result<T, Error> {
-        self.make(state, make, |kept, node, _| kept.keep(node))
-    }
-
-    // Like `make_at_once`, for a call that makes or accepts a message.
-    fn carry<T>(
-        &self,
-        state: &mut State,
-        make: impl FnOnce(&mut Node) -> Result<T, Error>,
-    ) -> Result<T, Error> {
-        self.make_at_once(state, make, |kept, node, _| kept.keep(node))
-    }
-
-    /// Whether the node accepts calls: none any more after one couldn't be written.
+    /// Whether the node accepts calls: none any more after one couldn't be written, and none as long
+    /// as memory for the line of one is refused.
     pub(crate) fn may_be_called(&self, state: &mut State) -> Result<(), Error> {
-        let goes_on = state.kept.goes_on();
-        self.end_unless(state, goes_on)
+        let State { kept, node, .. } = state;
+        let may = kept.catch_up(node);
+        self.end_unless(state, may)
     }
 
     /// Records an accepted call, if recording is on. If it can't be written, the node accepts no
@@ -312,15 +203,18 @@ impl Registry {
 
     /// Writes what waits to be written. Errors: the recording lacks a call.
     pub(crate) fn flush(&self, state: &mut State) -> Result<(), Error> {
-        let flushed = state.kept.flush();
+        let State { kept, node, .. } = state;
+        let flushed = kept.flush(node);
         self.end_unless(state, flushed)
     }
 
-    fn end_unless(&self, state: &mut State, goes_on: Result<(), Error>) -> Result<(), Error> {
-        if goes_on.is_err() {
+    fn end_unless(&self, state: &mut State, recorded: Result<(), Error>) -> Result<(), Error> {
+        // Memory may be there the next time.
+        let is_lost = |error: &Error| error.kind() != ErrorKind::OutOfMemory;
+        if recorded.as_ref().is_err_and(is_lost) {
             self.end(state);
         }
-        goes_on
+        recorded
     }
 
     /// Writes what waits to be written, if the node records. Errors: the recording lacks a call.
@@ -328,15 +222,17 @@ impl Registry {
         self.flush(&mut self.lock())
     }
 
-    // Makes calls that are no evaluations, and records each of them, even if a later one is
-    // rejected.
+    // Makes calls that are no evaluations and are given a text of this length, and records each of
+    // them, even if a later one is rejected.
     fn make_several<T>(
         &self,
         state: &mut State,
+        given: usize,
         make: impl FnOnce(&mut Node) -> Result<T, Error>,
     ) -> Result<T, Error> {
         state.has_heard()?;
         self.may_be_called(state)?;
+        state.kept.make_room(given)?;
         let before = state.node.calls()?;
         let answer = make(&mut state.node);
         self.keep(state, |kept, node| kept.keep_since(node, before))?;
@@ -347,9 +243,13 @@ impl Registry {
     }
 
     // Makes a call that changes which points are set, and publishes the change.
-    fn change<T>(&self, make: impl FnOnce(&mut Node) -> Result<T, Error>) -> Result<T, Error> {
+    fn change<T>(
+        &self,
+        given: usize,
+        make: impl FnOnce(&mut Node) -> Result<T, Error>,
+    ) -> Result<T, Error> {
         let mut state = self.lock();
-        let answer = self.call(&mut state, make)?;
+        let answer = self.call(&mut state, given, make)?;
         let over = self.settings_changed(&mut state);
         drop(state);
         // Without the lock: dropping a closure's captures may call the registry.
@@ -379,7 +279,7 @@ impl Registry {
         // learns.
         let names = match state.is_over || state.waits {
             true => Some(HashSet::new()),
-            false => list.map(|list| names_in(&list)),
+            false => list.and_then(|list| names_in(&list).ok()),
         };
         self.show(state, names);
         self.changed.notify_all();
@@ -395,7 +295,7 @@ impl Registry {
     /// [`BadName`](ErrorKind::BadName), [`BadText`](ErrorKind::BadText),
     /// [`TooManyPoints`](ErrorKind::TooManyPoints), or [`NumberFull`](ErrorKind::NumberFull).
     pub fn set(&self, name: &str, actions: &str) -> Result<Stamp, Error> {
-        let set = self.change(|node| node.set(name, actions));
+        let set = self.change(actions.len(), |node| node.set(name, actions));
         set.map_err(|error| error.at_point(name))
     }
 
@@ -413,7 +313,7 @@ impl Registry {
     ) -> Result<Stamp, Error> {
         let run: Callback = Arc::new(run);
         let mut state = self.lock();
-        let set = self.call(&mut state, |node| node.set(name, "off"));
+        let set = self.call(&mut state, 0, |node| node.set(name, "off"));
         let stamp = set.map_err(|error| error.at_point(name))?;
         let over = self.settings_changed(&mut state);
         state.callbacks.insert(name.to_string(), (stamp, run));
@@ -428,7 +328,7 @@ impl Registry {
     /// [`BadName`](ErrorKind::BadName), [`TooManyPoints`](ErrorKind::TooManyPoints), or
     /// [`NumberFull`](ErrorKind::NumberFull).
     pub fn remove(&self, name: &str) -> Result<Stamp, Error> {
-        let removed = self.change(|node| node.remove(name));
+        let removed = self.change(0, |node| node.remove(name));
         removed.map_err(|error| error.at_point(name))
     }
 
@@ -442,7 +342,7 @@ impl Registry {
     }
 
     fn load_bytes(&self, text: &[u8]) -> Result<u16, Error> {
-        self.change(|node| node.load(text))
+        self.change(text.len(), |node| node.load(text))
     }
 
     /// Loads the environment variable FAILPOINTS, if it is set. Returns the number of its entries.
@@ -460,7 +360,7 @@ impl Registry {
 
     /// Loads FAILPOINTS, unless the node resumed from its journal, which has its points.
     pub(crate) fn begin_with_env(&self) -> Result<(), Error> {
-        match self.goes_on {
+        match self.has_resumed {
             true => Ok(()),
             false => self.load_env().map(drop),
         }
@@ -481,7 +381,8 @@ impl Registry {
             drop(over);
             return removed;
         }
-        let fresh = State::of(&self.made)?;
+        let mut fresh = State::of(&self.made)?;
+        fresh.unsent = std::mem::take(&mut state.unsent);
         let was = std::mem::replace(&mut *state, fresh);
         self.shown.show(state.names.as_ref());
         self.changed.notify_all();
@@ -495,8 +396,12 @@ impl Registry {
             Ok(list) => list,
             Err(error) => return (Err(error), Vec::new()),
         };
-        let removed = names_in(&list).iter().try_for_each(|name| {
-            let removed = self.call(state, |node| node.remove(name));
+        let names = match names_in(&list) {
+            Ok(names) => names,
+            Err(refused) => return (Err(refused.into()), Vec::new()),
+        };
+        let removed = names.iter().try_for_each(|name| {
+            let removed = self.call(state, 0, |node| node.remove(name));
             removed.map(drop)
         });
         match state.is_over {
@@ -510,7 +415,9 @@ impl Registry {
     /// # Errors
     /// [`BadName`](ErrorKind::BadName).
     pub fn pass(&self, name: &str) -> Result<Passed, Error> {
-        let passed = self.pass_in(&mut self.lock(), name, |node| node.pass(name));
+        let mut state = self.lock_to_evaluate();
+        let passed = self.pass_in(&mut state, name, |node| node.pass(name));
+        drop(state);
         passed.map_err(|error| error.at_point(name))
     }
 
@@ -540,7 +447,7 @@ impl Registry {
     /// [`NumberFull`](ErrorKind::NumberFull).
     pub fn shift(&self, name: &str, term: u8, to: u8, amount: u64) -> Result<u64, Error> {
         let make = |node: &mut Node| node.shift(name, term, to, amount);
-        let total = self.call(&mut self.lock(), make);
+        let total = self.call(&mut self.lock(), 0, make);
         total.map_err(|error| error.at_point(name))
     }
 
@@ -552,7 +459,7 @@ impl Registry {
     /// [`BadArgument`](ErrorKind::BadArgument), or [`NumberFull`](ErrorKind::NumberFull).
     pub fn grant(&self, name: &str, term: u8, amount: u64) -> Result<u64, Error> {
         let make = |node: &mut Node| node.grant(name, term, amount);
-        let total = self.call(&mut self.lock(), make);
+        let total = self.call(&mut self.lock(), 0, make);
         total.map_err(|error| error.at_point(name))
     }
 
@@ -566,7 +473,7 @@ impl Registry {
     /// [`BadName`](ErrorKind::BadName), [`NotSet`](ErrorKind::NotSet), or
     /// [`NumberFull`](ErrorKind::NumberFull).
     pub fn spread(&self, name: &str) -> Result<u64, Error> {
-        let kept = self.make_several(&mut self.lock(), |node| node.spread(name));
+        let kept = self.make_several(&mut self.lock(), 0, |node| node.spread(name));
         kept.map_err(|error| error.at_point(name))
     }
 
@@ -578,7 +485,9 @@ impl Registry {
     /// Those of [`set`](Registry::set).
     pub fn set_spread(&self, name: &str, actions: &str) -> Result<Stamp, Error> {
         let mut state = self.lock();
-        let set = self.make_several(&mut state, |node| node.set_spread(name, actions));
+        let set = self.make_several(&mut state, actions.len(), |node| {
+            node.set_spread(name, actions)
+        });
         let over = self.settings_changed(&mut state);
         drop(state);
         // Without the lock: dropping a closure's captures may call the registry.
@@ -592,15 +501,17 @@ impl Registry {
     /// calls it before each round of messages; with [`gossip`](crate::gossip), use
     /// [`Gossip::share`](crate::Gossip::share) instead.
     pub fn share(&self) -> Result<u64, Error> {
-        self.make_several(&mut self.lock(), Node::share)
+        self.make_several(&mut self.lock(), 0, Node::share)
     }
 
-    /// Makes a message to another node, with the changes that it isn't known to have.
+    /// Makes a message to another node, with the changes that it isn't known to have. If memory for
+    /// it is refused, the call may count against the call limit.
     ///
     /// # Errors
     /// [`BadArgument`](ErrorKind::BadArgument).
     pub fn emit(&self, to: u8) -> Result<Vec<u8>, Error> {
-        self.carry(&mut self.lock(), |node| node.emit(to))
+        let make = |node: &mut Node| node.emit(to);
+        self.call_at_once(&mut self.lock(), 0, make, Kept::keep_message)?
     }
 
     /// Accepts a message from another node. Returns whether this one learned anything.
@@ -611,8 +522,9 @@ impl Registry {
     /// [`TooManyPoints`](ErrorKind::TooManyPoints).
     pub fn deliver(&self, message: &[u8]) -> Result<bool, Error> {
         let mut state = self.lock();
-        let made = self.carry(&mut state, |node| node.deliver(message));
-        let has_begun = state.note(message, made.as_ref().err().map(Error::fault));
+        let make = |node: &mut Node| node.deliver(message);
+        let made = self.call_at_once(&mut state, message.len(), make, Kept::keep);
+        let has_begun = state.has_begun();
         let is_news = matches!(made, Ok(true)) || has_begun;
         let over = is_news.then(|| self.settings_changed(&mut state));
         drop(state);
@@ -745,22 +657,8 @@ impl fmt::Debug for Registry {
 /// Those of `out`, and [`InvalidInput`](io::ErrorKind::InvalidInput) for registries that aren't all
 /// nodes of one cluster or don't record.
 pub fn write_drill(registries: &[&Registry], out: &mut impl Write) -> io::Result<()> {
-    let nodes = registries.len();
-    let in_order =
-        |(n, it): (usize, &&Registry)| (n, nodes) == (it.made.number.into(), it.made.nodes.into());
-    if !registries.iter().enumerate().all(in_order) {
-        return Err(not_a_cluster(
-            "a recording takes all nodes of one cluster, in the order of their numbers",
-        ));
-    }
+    Builder::judge_cluster(registries.iter().map(|registry| &registry.made))?;
     let states: Vec<_> = registries.iter().map(|registry| registry.lock()).collect();
     let recorded: Option<Vec<_>> = states.iter().map(|state| state.kept.receipts()).collect();
-    match recorded {
-        Some(recorded) => receipts::write(&recorded, out),
-        None => Err(not_a_cluster("a recording takes nodes that record")),
-    }
-}
-
-fn not_a_cluster(text: &str) -> io::Error {
-    io::Error::new(io::ErrorKind::InvalidInput, text)
+    receipts::write(&recorded.unwrap_or_default(), out)
 }

@@ -1,13 +1,14 @@
 //! A registry that is served over HTTP, in threads of its own.
 
-use crate::answers::Reply;
 use crate::error::{Error, ErrorKind};
-use crate::fail_rs::has_failpoints;
-use crate::heads::{Fault, Head};
-use crate::http::Connection;
+use crate::heads::{BAD_DIGEST, Fault, Head};
+use crate::http::{Connection, HeadRoom};
 use crate::key::Key;
 use crate::page::PAGE;
 use crate::registry::Registry;
+use crate::told::Reply;
+use crate::unsent::Sending;
+use std::borrow::Cow;
 use std::collections::HashMap;
 use std::fmt;
 use std::io;
@@ -24,6 +25,12 @@ const CLIENTS: usize = 64;
 /// How many of them may have a longer body than this, in bytes, which limits memory.
 const LONG_BODIES: usize = 4;
 const LONG: usize = 65_536;
+
+/// How many connections may wait for a place; the system may allow fewer.
+const BACKLOG: i32 = 4_096;
+
+/// More bytes than the standard library takes to start a thread, without its stack.
+const ROOM_FOR_THREAD: usize = 16_384;
 
 /// How long current clients have when the service ends.
 const LAST_TIME: Duration = Duration::from_secs(2);
@@ -139,38 +146,51 @@ impl Drop for LongBody<'_> {
 
 impl<'a> Client<'a> {
     fn serve(&self, registry: &Registry) -> io::Result<()> {
+        let mut room = HeadRoom::new();
         let mut connection = Connection::new(&self.stream);
-        match self.read(&mut connection, registry) {
-            Ok((head, reply)) => {
-                connection.write(Some(&head), reply.status, &reply.body)?;
+        let key = self.service.key.as_ref();
+        let read = connection
+            .read_head(&mut room, self.service.addr, key)
+            .and_then(|head| Ok((self.answered(&mut connection, &head, registry)?, head)));
+        let fault = match read {
+            Ok((reply, head)) => {
+                connection.write(&head, reply.status, &reply.body)?;
+                // The points that the request set act from now on.
+                drop(reply);
                 if connection.has_more() {
                     connection.drain();
                 }
-                Ok(())
+                return Ok(());
             }
-            Err(Fault::Reply(status, text)) => {
-                connection.write(None, status, text.as_bytes())?;
-                connection.drain();
-                Ok(())
+            Err(fault) => fault,
+        };
+        match fault {
+            Fault::Reply(status, text) => connection.write_fault(status, text, None)?,
+            Fault::OtherMethod(methods) => {
+                connection.write_fault(405, "bad method", Some(methods))?;
             }
-            Err(Fault::Gone) => Ok(()),
+            Fault::Gone => return Ok(()),
         }
+        connection.drain();
+        Ok(())
     }
 
-    // Reads the request and carries it out. Returns its head and the response.
-    fn read(
+    // Reads the body of a request, and carries it out.
+    fn answered<'r>(
         &self,
         connection: &mut Connection<'_>,
-        registry: &Registry,
-    ) -> Result<(Head, Reply), Fault> {
-        let head = connection.read_head(self.service.addr, self.service.key.as_ref())?;
+        head: &Head<'_>,
+        registry: &'r Registry,
+    ) -> Result<Answer<'r>, Fault> {
         let _place = match head.may_exceed(LONG) {
             true => Some(self.long_body(connection.end()).ok_or(Fault::Gone)?),
             false => None,
         };
-        let body = connection.read_body(&head)?;
-        let reply = page_reply(&head).unwrap_or_else(|| answered(registry, &head, &body));
-        Ok((head, reply))
+        let body = connection.read_body(head)?;
+        if head.is_message() && !head.is_intact(self.service.key.as_ref(), &body) {
+            return Err(BAD_DIGEST);
+        }
+        Ok(page_answer(head).unwrap_or_else(|| answered(registry, head, &body)))
     }
 
     // Waits for a place for a long body.
@@ -189,25 +209,47 @@ impl<'a> Client<'a> {
     }
 }
 
+/// A status, and a body that may be one of the program's own.
+struct Answer<'r> {
+    status: u16,
+    body: Cow<'static, [u8]>,
+    /// Dropped once the response is sent, if the request changed configurations.
+    _sending: Option<Sending<'r>>,
+}
+
 // Returns the response with the browser UI, which needs nothing of the node.
-fn page_reply(head: &Head) -> Option<Reply> {
-    let (status, text) = match (&head.path[..], &head.method[..]) {
+fn page_answer(head: &Head<'_>) -> Option<Answer<'static>> {
+    let (status, text) = match (head.path, head.method) {
         ("/", "GET") => (200, PAGE),
         ("/", _) => (405, "bad method"),
         _ => return None,
     };
-    Some(Reply {
+    let body = Cow::Borrowed(text.as_bytes());
+    Some(Answer {
         status,
-        body: text.as_bytes().to_vec(),
+        body,
+        _sending: None,
     })
 }
 
-fn answered(registry: &Registry, head: &Head, body: &[u8]) -> Reply {
-    let answered = registry.answer(&head.method, &head.path, body);
-    answered.unwrap_or_else(|error| Reply {
-        status: 503,
-        body: error.fault().as_bytes().to_vec(),
-    })
+fn answered<'r>(registry: &'r Registry, head: &Head<'_>, body: &[u8]) -> Answer<'r> {
+    match registry.answer_sending(head.method, head.path, body) {
+        Ok((Reply { status, body }, sending)) => Answer {
+            status,
+            body: body.into(),
+            _sending: sending,
+        },
+        Err(error) => Answer {
+            status: 503,
+            body: error.into_body(),
+            _sending: None,
+        },
+    }
+}
+
+// Returns whether there is memory for a thread to start: what is refused to it then ends the program.
+fn has_room_for_thread() -> bool {
+    Vec::<u8>::new().try_reserve_exact(ROOM_FOR_THREAD).is_ok()
 }
 
 // Accepts a client and serves it in a thread of its own. Returns whether the service continues.
@@ -217,7 +259,7 @@ fn welcome<'s>(
     service: &'s Service,
     accepted: io::Result<(TcpStream, SocketAddr)>,
 ) -> bool {
-    let Ok((stream, _)) = accepted else {
+    let (Ok((stream, _)), true) = (accepted, has_room_for_thread()) else {
         // For example, the process has no file descriptor left.
         thread::sleep(REST);
         return true;
@@ -329,16 +371,6 @@ impl Deref for Served {
     }
 }
 
-pub(crate) fn has_to_have_failpoints() -> Result<(), Error> {
-    match has_failpoints() {
-        true => Ok(()),
-        false => {
-            let fault = "the program was built without failpoints";
-            Err(Error::new(ErrorKind::Disabled, fault))
-        }
-    }
-}
-
 /// Returns the error of an address that needs a key.
 pub(crate) fn not_local(addr: &SocketAddr) -> Error {
     let fault = format!(
@@ -353,7 +385,6 @@ pub(crate) fn listen(
     addr: impl ToSocketAddrs + fmt::Debug,
     has_key: bool,
 ) -> Result<TcpListener, Error> {
-    has_to_have_failpoints()?;
     let cant = |error: io::Error| Error::new(ErrorKind::CantListen, error.to_string());
     let addrs = addr.to_socket_addrs().map_err(cant);
     let addrs: Vec<SocketAddr> = addrs.map_err(|e| e.at_address(&addr))?.collect();
@@ -362,8 +393,27 @@ pub(crate) fn listen(
         return Err(not_local(other).at_address(&addr));
     }
     TcpListener::bind(&addrs[..])
+        .and_then(|listener| with_backlog(listener, BACKLOG))
         .map_err(cant)
         .map_err(|error| error.at_address(&addr))
+}
+
+// Lets more connections wait to be accepted than the 128 of the standard library.
+#[cfg(unix)]
+fn with_backlog(listener: TcpListener, backlog: i32) -> io::Result<TcpListener> {
+    use std::os::fd::AsRawFd;
+    unsafe extern "C" {
+        safe fn listen(socket: i32, backlog: i32) -> i32;
+    }
+    match listen(listener.as_raw_fd(), backlog) {
+        0 => Ok(listener),
+        _ => Err(io::Error::last_os_error()),
+    }
+}
+
+#[cfg(not(unix))]
+fn with_backlog(listener: TcpListener, _: i32) -> io::Result<TcpListener> {
+    Ok(listener)
 }
 
 /// Serves clients of a listener.
@@ -377,7 +427,10 @@ pub(crate) fn serve_at(
     let service = Arc::new(Service {
         addr,
         key: registry.key.clone(),
-        clients: Mutex::default(),
+        clients: Mutex::new(Clients {
+            streams: HashMap::with_capacity(CLIENTS),
+            ..Clients::default()
+        }),
         changed: Condvar::new(),
     });
     let its = service.clone();
@@ -418,8 +471,8 @@ pub(crate) fn serve_at(
 /// its head: nothing happens, and its body isn't read. Only the page itself needs no key: it has no
 /// data of the node, and asks for the key.
 ///
-/// A connection carries one request, with a head of at most 8 KiB; the client has 2 seconds for the
-/// head and 10 in total. 64 clients are served at once, 4 of them with a body over 64 KiB; the next
+/// A connection carries one request, with a head of at most 64 KiB; the client has 2 seconds for
+/// the head and 10 in total. 64 clients are served at once, 4 of them with a body over 64 KiB; the next
 /// ones wait. The registry's lock is held only during a call, never while data is received or sent.
 ///
 /// # Errors

@@ -19,8 +19,19 @@ const ROOTS: [u32; 64] = [
 
 /// Returns the digest of these bytes.
 pub(crate) fn sha256(bytes: &[u8]) -> [u8; 32] {
-    let (blocks, rest) = bytes.as_chunks();
+    digest_from(START, 0, bytes)
+}
+
+/// Returns the digest of a block, followed by these bytes.
+pub(crate) fn sha256_after(block: &[u8; 64], bytes: &[u8]) -> [u8; 32] {
     let mut state = START;
+    take_in(&mut state, block);
+    digest_from(state, 64, bytes)
+}
+
+// Returns the digest of bytes after so many others, which are whole blocks and led to this state.
+fn digest_from(mut state: [u32; 8], before: u64, bytes: &[u8]) -> [u8; 32] {
+    let (blocks, rest) = bytes.as_chunks();
     for block in blocks {
         take_in(&mut state, block);
     }
@@ -29,7 +40,7 @@ pub(crate) fn sha256(bytes: &[u8]) -> [u8; 32] {
     last[..rest.len()].copy_from_slice(rest);
     last[rest.len()] = 0x80;
     let end = if rest.len() < 56 { 64 } else { 128 };
-    last[end - 8..end].copy_from_slice(&(8 * bytes.len() as u64).to_be_bytes());
+    last[end - 8..end].copy_from_slice(&(8 * (before + bytes.len() as u64)).to_be_bytes());
     for block in last[..end].as_chunks().0 {
         take_in(&mut state, block);
     }

@@ -1,4 +1,4 @@
-//! Results of a node: versions, actions and evaluations.
+//! Results of a node: versions, actions, evaluations and responses.
 
 use std::time::Duration;
 
@@ -53,4 +53,13 @@ pub enum Passed {
         /// Its action.
         task: Task,
     },
+}
+
+/// The response to an HTTP request.
+#[derive(Clone, Debug, PartialEq, Eq, Hash)]
+pub struct Reply {
+    /// The status: 200 if the request was carried out.
+    pub status: u16,
+    /// The body, a text without a newline; for an error, its reason.
+    pub body: Vec<u8>,
 }

@@ -43,7 +43,7 @@ fn its_points_do_nothing() {
 }
 
 #[test]
-fn its_points_go_on_where_that_is_wanted() {
+fn its_points_continue_if_that_is_wanted() {
     let told = Arc::new(Mutex::new(Vec::new()));
     let its = told.clone();
     let call = OnForgotten::call(move |error| its.lock().unwrap().push(error.kind()));

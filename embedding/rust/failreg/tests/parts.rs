@@ -73,7 +73,7 @@ fn steps() -> Vec<Step> {
 }
 
 #[test]
-fn a_node_goes_on_as_if_it_had_never_ended() {
+fn a_node_resumes_as_if_it_had_never_ended() {
     let (whole, broken) = (new_file("whole"), new_file("broken"));
     let node = open(&whole);
     let mut again = open(&broken);

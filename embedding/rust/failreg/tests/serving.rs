@@ -243,11 +243,10 @@ fn what_requests_ask_for_is_in_the_drill() {
 }
 
 // What follows `PUT /fail/p HTTP/1.1` and a Host: fields, the body, and the status.
-const BAD_FIELDS: [(&str, &str, u16); 15] = [
+const BAD_FIELDS: [(&str, &str, u16); 13] = [
     ("X: y\n", "", 400),
     ("X y\r\n", "", 400),
     ("Host: localhost\r\n", "", 400),
-    ("Content-Length: 3\r\nContent-Length: 3\r\n", "off", 400),
     ("Content-Length: 3\r\nContent-Length: 4\r\n", "off", 400),
     ("Content-Length: three\r\n", "off", 400),
     ("", "off", 400),
@@ -268,7 +267,6 @@ const BAD_FIELDS: [(&str, &str, u16); 15] = [
         "3\r\noff\r\n0\r\n\r\n",
         501,
     ),
-    ("Expect: more\r\nContent-Length: 3\r\n", "off", 417),
     (
         "Origin: http://127.0.0.1:1\r\nContent-Length: 3\r\n",
         "off",
@@ -287,8 +285,8 @@ const BAD_HEADS: [(&str, u16); 8] = [
     ),
     ("DELETE /fail/p HTTP/1.1\r\n\r\n", 400),
     (
-        "DELETE http://localhost/fail/p HTTP/1.1\r\nHost: localhost\r\n\r\n",
-        400,
+        "DELETE http://example.org/fail/p HTTP/1.1\r\nHost: localhost\r\n\r\n",
+        403,
     ),
     ("DELETE /fail/p HTTP/2\r\nHost: localhost\r\n\r\n", 400),
     ("hello\r\n\r\n", 400),
@@ -306,9 +304,9 @@ fn requests_that_are_none_are_refused() {
     let fields = BAD_FIELDS.map(|(fields, body, status)| (put(fields, body), status));
     let heads = BAD_HEADS.map(|(head, status)| (head.to_string(), status));
     let long = [
-        (put(&format!("X: {}\r\n", "a".repeat(9_000)), ""), 431),
+        (put(&format!("X: {}\r\n", "a".repeat(70_000)), ""), 431),
         (put(&"X: y\r\n".repeat(100), ""), 431),
-        ("a".repeat(9_000), 414),
+        ("a".repeat(70_000), 414),
     ];
     for (sent, status) in fields.into_iter().chain(heads).chain(long) {
         let reply = raw(addr, sent.as_bytes());
@@ -324,21 +322,21 @@ fn requests_that_are_none_are_refused() {
 }
 
 #[test]
-fn a_head_may_have_8192_bytes() {
+fn a_head_may_have_64_kib() {
     let (_node, _serving, addr) = served(1);
     let head_of = |length| {
         let rest = length - put("X: \r\n", "").len();
         put(&format!("X: {}\r\n", "a".repeat(rest)), "")
     };
     // An empty text is no action.
-    assert!(raw(addr, head_of(8_192).as_bytes()).contains(" 400 Bad Request\r\n"));
-    assert!(raw(addr, head_of(8_193).as_bytes()).contains(" 431 "));
+    assert!(raw(addr, head_of(65_536).as_bytes()).contains(" 400 Bad Request\r\n"));
+    assert!(raw(addr, head_of(65_537).as_bytes()).contains(" 431 "));
     // Even if its end arrives in a piece that began before.
     let mut stream = TcpStream::connect(addr).unwrap();
-    let head = head_of(8_200);
-    stream.write_all(&head.as_bytes()[..8_190]).unwrap();
+    let head = head_of(65_550);
+    stream.write_all(&head.as_bytes()[..65_530]).unwrap();
     thread::sleep(A_WHILE);
-    stream.write_all(&head.as_bytes()[8_190..]).unwrap();
+    stream.write_all(&head.as_bytes()[65_530..]).unwrap();
     assert!(rest_of(&mut stream).contains(" 431 "));
 }
 
@@ -359,7 +357,7 @@ fn what_stands_behind_a_body_is_no_request() {
     }
     for sent in ["none", "none!"] {
         let mut stream = expecting(addr, 4);
-        assert!(is_told_to_go_on(&mut stream, SOON));
+        assert!(is_sent_continue(&mut stream, SOON));
         stream.write_all(sent.as_bytes()).unwrap();
         let reply = rest_of(&mut stream);
         assert!(reply.contains("\r\n\r\nN16 BadMessage"), "{reply}");
@@ -442,7 +440,7 @@ fn expecting(addr: SocketAddr, length: usize) -> TcpStream {
 }
 
 // Whether it may continue, within this time.
-fn is_told_to_go_on(stream: &mut TcpStream, time: Duration) -> bool {
+fn is_sent_continue(stream: &mut TcpStream, time: Duration) -> bool {
     stream.set_read_timeout(Some(time)).unwrap();
     let mut told = [0; 25];
     match stream.read_exact(&mut told) {
@@ -461,19 +459,19 @@ const A_WHILE: Duration = Duration::from_millis(300);
 fn the_longest_body_is_taken_and_four_long_ones_at_once() {
     let (_node, _serving, addr) = served(1);
     let mut long: Vec<TcpStream> = (0..4).map(|_| expecting(addr, 67_108_864)).collect();
-    assert!(long.iter_mut().all(|stream| is_told_to_go_on(stream, SOON)));
+    assert!(long.iter_mut().all(|stream| is_sent_continue(stream, SOON)));
     let mut fifth = expecting(addr, 65_537);
     assert!(
-        !is_told_to_go_on(&mut fifth, A_WHILE),
+        !is_sent_continue(&mut fifth, A_WHILE),
         "it waits for a place"
     );
     // Others don't.
-    assert!(is_told_to_go_on(&mut expecting(addr, 65_536), SOON));
+    assert!(is_sent_continue(&mut expecting(addr, 65_536), SOON));
     assert_eq!(ask(addr, "GET", "/fail", ""), (200, String::new()));
     let mut last = long.pop().unwrap();
     last.write_all(&vec![0; 67_108_864]).unwrap();
     assert!(rest_of(&mut last).ends_with("\r\n\r\nN16 BadMessage W1 Magic offset=0"));
-    assert!(is_told_to_go_on(&mut fifth, SOON), "there is a place");
+    assert!(is_sent_continue(&mut fifth, SOON), "there is a place");
 }
 
 #[test]
@@ -510,12 +508,12 @@ fn sixty_four_clients_are_served_at_once_and_the_next_one_waits() {
     assert!(
         silent
             .iter_mut()
-            .all(|stream| is_told_to_go_on(stream, SOON))
+            .all(|stream| is_sent_continue(stream, SOON))
     );
     let mut next = expecting(addr, 9);
-    assert!(!is_told_to_go_on(&mut next, A_WHILE));
+    assert!(!is_sent_continue(&mut next, A_WHILE));
     drop(silent.pop());
-    assert!(is_told_to_go_on(&mut next, SOON));
+    assert!(is_sent_continue(&mut next, SOON));
     // The service can end while all places are taken.
     let begun = Instant::now();
     serving.stop();
@@ -528,11 +526,80 @@ fn sixty_four_clients_are_served_at_once_and_the_next_one_waits() {
 }
 
 #[test]
+fn many_clients_wait_for_a_place() {
+    let (_node, serving, addr) = served(1);
+    let held: Vec<_> = (0..64).map(|_| TcpStream::connect(addr).unwrap()).collect();
+    let second = Duration::from_secs(1);
+    let waiting: Vec<_> = (0..400)
+        .map(|_| TcpStream::connect_timeout(&addr, second).expect("there is room to wait"))
+        .collect();
+    drop(held);
+    drop(waiting);
+    assert_eq!(ask(addr, "GET", "/fail", "").0, 200);
+    serving.stop();
+}
+
+#[test]
+fn a_head_is_answered_without_a_body() {
+    let (_node, _serving, addr) = served(1);
+    for (head, status) in [
+        ("HEAD /fail HTTP/1.1\r\n\r\n", 400),
+        ("HEAD /fail HTTP/2\r\n\r\n", 400),
+        ("HEAD /fail HTTP/1.1\r\nHost: example.org\r\n\r\n", 403),
+        ("HEAD /fail HTTP/1.1\r\nHost: localhost\r\n\r\n", 405),
+        ("HEAD / HTTP/1.1\r\nHost: localhost\r\n\r\n", 405),
+        (
+            "HEAD /fail HTTP/1.1\r\nHost: localhost\r\nContent-Length: 67108865\r\n\r\n",
+            405,
+        ),
+        (
+            "HEAD /fail HTTP/1.1\r\nHost: localhost\r\nTransfer-Encoding: gzip, chunked\r\n\r\n",
+            501,
+        ),
+        ("\r\nHEAD /fail HTTP/1.1\r\nHost: localhost\r\n\r\n", 405),
+    ] {
+        let reply = raw(addr, head.as_bytes());
+        assert_eq!(status_of(&reply), status, "{head}: {reply}");
+        assert!(
+            reply.ends_with("\r\n\r\n") && !reply.contains("content-length: 0"),
+            "{reply}"
+        );
+    }
+}
+
+#[test]
+fn another_method_is_told_which_there_are() {
+    let (_node, _serving, addr) = served(1);
+    let long = "Content-Length: 67108865\r\n";
+    for (line, fields, methods) in [
+        ("PUT /fail/", "", "GET"),
+        ("DELETE /fail", "", "GET"),
+        ("POST /", "", "GET"),
+        ("POST /", long, "GET"),
+        ("PUT /fail", long, "GET"),
+        ("PUT /fail/", long, "GET"),
+        ("GET /fail/a", "", "PUT, DELETE"),
+        ("GET /fail/a", long, "PUT, DELETE"),
+        ("GET /spread/a", "", "PUT, POST"),
+        ("GET /hello", "", "POST"),
+        ("GET /gossip", long, "POST"),
+    ] {
+        let head = format!("{line} HTTP/1.1\r\nHost: localhost\r\n{fields}\r\n");
+        let reply = raw(addr, head.as_bytes());
+        assert_eq!(status_of(&reply), 405, "{line}: {reply}");
+        assert!(
+            reply.contains(&format!("\r\nallow: {methods}\r\n")),
+            "{line}: {reply}"
+        );
+    }
+}
+
+#[test]
 fn who_is_being_served_is_answered_when_the_service_ends() {
     let (node, serving, addr) = served(1);
     let (mut slow, mut silent) = (expecting(addr, 4), expecting(addr, 4));
     for stream in [&mut slow, &mut silent] {
-        assert!(is_told_to_go_on(stream, SOON));
+        assert!(is_sent_continue(stream, SOON));
     }
     let begun = Instant::now();
     let ending = thread::spawn(move || serving.stop());
