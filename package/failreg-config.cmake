@@ -7,6 +7,7 @@ if(NOT TARGET failreg::failreg)
     set_target_properties(failreg::failreg PROPERTIES
         IMPORTED_LOCATION "${_failreg_prefix}/lib/libfailreg.a"
         INTERFACE_INCLUDE_DIRECTORIES "${_failreg_prefix}/include"
+        INTERFACE_LINK_OPTIONS "-pthread"
         IMPORTED_LINK_INTERFACE_LANGUAGES "C")
 endif()
 
