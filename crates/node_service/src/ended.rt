@@ -1,13 +1,12 @@
 //! How a node was served.
 
-ghost use Rattle.std.specs.Prelude.{ℕ, IfSome, Some, ◌≡◌};
+ghost use Rattle.std.specs.Prelude.{ℕ, IfSome, option_map, option_or, ◌≡◌};
 ghost use Rattle.std.specs.Arc.{arc_value};
 ghost use Rattle.http_service.specs.Endings.{IsServedTo};
-ghost use Rattle.node_service.specs.Endings.{IsNodeServed};
+ghost use Rattle.node_service.specs.Endings.{IsNodeServed, IsSomeEnd, shown_reason};
 
 use http_serve::{Ended, Ending, Reason, Served};
-use peer_rounds::Service;
-use std::sync::{Arc, Wait};
+use std::sync::Arc;
 
 /// How the service of a node ended.
 #[derive(Clone, Copy, Debug, PartialEq, Eq)]
@@ -36,22 +35,19 @@ impl NodeServed {
         }
     }
 
-    /// With the loss of the node's state as the reason, if a message from the wire showed it and nothing else
-    /// ended the service.
-    pub(crate) fn or_lost<R: Wait>(self, rt: &R, service: &Service, ending: &Ending) -> NodeServed
+    /// With the reason for which gossip shows that the service is ended, if it does and the service itself came to
+    /// no early end.
+    pub(crate) fn or_ended<'a>(self, ending: &'a Ending, ended: Option<Ended<'a>>) -> NodeServed
+        requires { IfSome ended (IsSomeEnd ending.now.reason.id) }
         ensures served { (wanted : ℕ) → IsNodeServed wanted self → IsNodeServed wanted result }
-        ensures early { IfSome self.early (λ reason. result.early ≡ Some reason) }
+        ensures early { result.early ≡ option_or self.early (option_map shown_reason ended) }
     {
-        let Some(shown) = service.loss() else {
-            return self;
-        };
-        let ended = ending.meet(rt, Some(service.lost_state(&shown)));
-        let lost = match ended {
+        let shown = match ended {
             Some(Ended::Now(token) | Ended::Before(token)) => Some(ending.reason(&token)),
             None => None,
         };
         NodeServed {
-            early: self.early.or(lost),
+            early: self.early.or(shown),
             ..self
         }
     }

@@ -1,11 +1,13 @@
 //! A node that is served, and its gossip beside it.
 
-ghost use Rattle.std.specs.Prelude.{◌≡◌, ◌⊎◌, false, None, IfOk, IfErr, IsSomeAnd, MatchOption};
+ghost use Rattle.std.specs.Prelude.{◌≡◌, ◌⊎◌, false, IfOk, IfErr, IfSome};
 ghost use Rattle.std.specs.Arc.{arc_value};
+ghost use Rattle.http_routes.specs.declared.table.RouteSet.TheVariants.{Program};
+ghost use Rattle.http_service.specs.Clients.{Offers};
 ghost use Rattle.http_service.specs.Endings.{IsServedTo};
+ghost use Rattle.http_service.specs.Keys.{key_in};
 ghost use Rattle.http_service.specs.declared.fault.ServeFault.TheVariants.{AcceptFailed, OutOfMemory};
-ghost use Rattle.node_service.specs.Endings.{IsNodeServed, IsSomeEnd};
-ghost use Rattle.peer_rounds.specs.Sharing.{IsEarly};
+ghost use Rattle.node_service.specs.Endings.{AreAllOrEarly, EndsByLoss, IsGossiped, IsNodeServed};
 
 use crate::calls::Calls;
 use crate::ended::NodeServed;
@@ -19,7 +21,7 @@ use part_keeper::Recorder;
 use peer_rounds::{Host, Rounds, Service, tell_peers};
 use std::sync::Arc;
 use std::thread;
-use std::thread::Scope;
+use std::thread::{Promise, Scope};
 use tokio::net::TcpListener;
 use tokio::runtime::Runtime;
 
@@ -53,13 +55,15 @@ impl<L: Label> Telling<L> {
     }
 }
 
-// Serves a node as it is called.
+// Serves a node as it is called: the routes of a program, to who has the access.
 fn served<'a, L, R>(rt: &R, serving: Serving<'a, L>) -> Result<Served<'a>, ServeFault>
 where
     L: Label + Send + Sync,
     R: Host,
     ensures ok { IfOk result
         (IsServedTo serving.entry.requests (arc_value serving.entry.ending.now).reason.id) }
+    ensures offer { IfOk result
+        (λ served. Offers Program (key_in serving.entry.access.now) served.clients.offer) }
     ensures err { IfErr result (λ f. (f ≡ AcceptFailed) ⊎ (f ≡ OutOfMemory)) }
 {
     let Serving {
@@ -117,10 +121,7 @@ fn tell<'s, 'e, L, R>(
 where
     L: Label,
     R: Host,
-    ensures rounds { MatchOption result.rounds.early
-        (result.rounds.made ≡ telling.options.rounds) (IsEarly service.now.end.id) }
-    ensures ended { MatchOption result.rounds.loss (result.ended ≡ None)
-        (λ _. IsSomeAnd result.ended (IsSomeEnd ending.now.reason.id)) }
+    ensures { IsGossiped telling.options.rounds service.now.end.id ending.now.reason.id result }
 {
     let Telling {
         mut seat,
@@ -135,6 +136,27 @@ where
     Gossiped { rounds, ended }
 }
 
+// A thread that tells the peers hands back what it came to: so many rounds, beside this service.
+#[derive(Drop)]
+struct Tells<'s> {
+    rounds: u32,
+    service: &'s Service,
+    ending: &'s Ending,
+}
+
+impl<'s> Promise<Gossiped<'s, 's>> for Tells<'s> {
+    ghost kept_by = { λ p told.
+        IsGossiped p.rounds p.service.now.end.id p.ending.now.reason.id told };
+}
+
+// How a node was served, and the rounds that told its peers beside it, if a thread could be started for them.
+#[derive(Drop)]
+struct ServedAndTold<'s> {
+    served: NodeServed,
+    told: Option<Rounds<'s>>,
+    ghost lost: { IfSome told (λ rounds. EndsByLoss rounds served) },
+}
+
 // Serves a node, with its gossip in a thread of the scope.
 fn serve_in<'s, E, L, R>(
     scope: &Scope<'s, E>,
@@ -142,27 +164,45 @@ fn serve_in<'s, E, L, R>(
     serving: Serving<'s, L>,
     telling: Telling<L>,
     service: &'s Service,
-) -> Result<NodeServed, ServeFault>
+) -> Result<ServedAndTold<'s>, ServeFault>
 where
     L: Label + Send + Sync + 's,
     R: Host,
-    ensures ok { IfOk result (IsNodeServed serving.entry.requests) }
+    ensures ok { IfOk result (λ both. IsNodeServed serving.entry.requests both.served) }
+    ensures told { IfOk result (λ both. IfSome both.told
+        (AreAllOrEarly telling.options.rounds service.now.end.id)) }
     ensures err { IfErr result (λ f. (f ≡ AcceptFailed) ⊎ (f ≡ OutOfMemory)) }
 {
     let registry: &'s Registry<L> = serving.registry;
     let recorder: Option<&'s Recorder<L>> = serving.calls.recorder();
     let heard: &'s Peers = serving.heard;
     let ending: &'s Ending = serving.ending;
-    let thread = scope.spawn(move || {
-        let _ = tell(rt, registry, recorder, telling, heard, service, ending);
-    });
+    let promise = Tells {
+        rounds: telling.options.rounds,
+        service,
+        ending,
+    };
+    let thread = scope.spawn_with(
+        promise,
+        move || -> Gossiped<'s, 's>
+            ensures { IsGossiped telling.options.rounds service.entry.now.end.id
+                ending.entry.now.reason.id result }
+        { tell(rt, registry, recorder, telling, heard, service, ending) },
+    );
     let served = serve_alone(rt, serving);
     service.end(rt);
-    if let Ok(thread) = thread {
-        thread.join(rt);
-    }
+    let Ok(thread) = thread else {
+        return Ok(ServedAndTold {
+            served: served?,
+            told: None,
+        });
+    };
     // The last round may have shown a loss after the last client.
-    Ok(served?.or_lost(rt, service, ending))
+    let Gossiped { rounds, ended } = thread.join(rt);
+    Ok(ServedAndTold {
+        served: served?.or_ended(ending, ended),
+        told: Some(rounds),
+    })
 }
 
 /// Serves a node, and meanwhile tells its peers what they don't know, from a seat of its own in a second
@@ -189,6 +229,6 @@ where
         |scope| -> Result<NodeServed, ServeFault>
             ensures ok { IfOk result (IsNodeServed serving.entry.requests) }
             ensures err { IfErr result (λ f. (f ≡ AcceptFailed) ⊎ (f ≡ OutOfMemory)) }
-        { serve_in(scope, rt, serving, telling, service) },
+        { Ok(serve_in(scope, rt, serving, telling, service)?.served) },
     )
 }

@@ -14,12 +14,12 @@
 
 mod host;
 mod losses;
-mod peers;
 mod round;
 mod rounds;
 mod served_wire;
 mod service;
 mod taken;
+mod targets;
 mod telling;
 
 pub use host::Host;

@@ -9,7 +9,7 @@ ghost use Rattle.peer_rounds.specs.Sharing.{AreRightsOf, AreRounds, AreRoundsTo,
 ghost use Rattle.peer_rounds.specs.Sharing.{IsSharedFirst, rights_by};
 
 use crate::losses::Said;
-use crate::peers::first_paces;
+use crate::targets::first_paces;
 use crate::round::{Early, RightsNow, Round, Rounds};
 use crate::served_wire::ServedWire;
 use crate::service::{Loss, Service};

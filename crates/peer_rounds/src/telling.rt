@@ -7,7 +7,7 @@ ghost use Rattle.peer_rounds.specs.Sharing.{IsEarly};
 ghost use Rattle.peer_rounds.specs.Told.{IsToldOver};
 
 use crate::host::Host;
-use crate::peers::wire_to;
+use crate::targets::wire_to;
 use crate::round::{Early, Rounds};
 use crate::rounds::tell_over;
 use crate::service::Service;

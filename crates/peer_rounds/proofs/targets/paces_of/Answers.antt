@@ -2,8 +2,8 @@ use Rattle.std.proofs.Common.{◌≡◌, ap, sym, ◌∙◌, length, true, false
 use Rattle.std.proofs.lemmas.Grind.{common_steps}
 use Rattle.peer_rounds.specs.Rounds.{is_told}
 use Rattle.peer_rounds.proofs.RoundLemmas.{few_below, no_more_told, one_more_told}
-use Rattle.peer_rounds.proofs.peers.paces_of.Goals as goal
-use Rattle.peer_rounds.proofs.peers.paces_of.Goals.{then-is_told+in_ok-push, else-is_told}
+use Rattle.peer_rounds.proofs.targets.paces_of.Goals as goal
+use Rattle.peer_rounds.proofs.targets.paces_of.Goals.{then-is_told+in_ok-push, else-is_told}
 
 pub loop-other-preserved : goal.loop-other-preserved
 loop-other-preserved c = elim c.if-is_told.branch [
