@@ -9,11 +9,11 @@ ghost use Rattle.peer_rounds.specs.Sharing.{AreRightsOf, AreRounds, AreRoundsTo,
 ghost use Rattle.peer_rounds.specs.Sharing.{IsSharedFirst, rights_by};
 
 use crate::losses::Said;
-use crate::targets::first_paces;
 use crate::round::{Early, RightsNow, Round, Rounds};
 use crate::served_wire::ServedWire;
 use crate::service::{Loss, Service};
 use crate::taken::{note_attempts, note_taken};
+use crate::targets::first_paces;
 use command_line::{GossipOptions, Rights};
 use gossip::{Log, Pace, PeerWire, gossip_news};
 use http_peers::{AskState, Peers};

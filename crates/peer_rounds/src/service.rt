@@ -58,13 +58,6 @@ impl Service {
         self.sleeper.unpark();
     }
 
-    /// What shows that a message from a wire showed that the node has lost its state, if one did.
-    pub fn loss(&self) -> Option<OnceToken<'_, Loss>>
-        ensures { IfSome result (λ token. token.of ≡ self.now.loss.id) }
-    {
-        self.loss.witness()
-    }
-
     /// The first fault by which a message from a wire showed that the node has lost its state.
     pub fn lost_state<'a>(&'a self, shown: &OnceToken<'a, Loss>) -> NodeFault
         requires { shown.now.of ≡ self.now.loss.id }

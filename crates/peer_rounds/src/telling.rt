@@ -7,10 +7,10 @@ ghost use Rattle.peer_rounds.specs.Sharing.{IsEarly};
 ghost use Rattle.peer_rounds.specs.Told.{IsToldOver};
 
 use crate::host::Host;
-use crate::targets::wire_to;
 use crate::round::{Early, Rounds};
 use crate::rounds::tell_over;
 use crate::service::Service;
+use crate::targets::wire_to;
 use command_line::GossipOptions;
 use http_peers::Peers;
 use http_wire::{HttpWire, Key};
