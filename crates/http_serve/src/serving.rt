@@ -6,7 +6,7 @@ ghost use Rattle.http_service.specs.declared.fault.ServeFault.TheVariants.{Accep
 ghost use Rattle.http_routes.specs.declared.table.RouteSet.TheVariants.{Cluster, Program};
 ghost use Rattle.http_service.specs.Clients.{Offers};
 ghost use Rattle.http_service.specs.Endings.{IsServedTo};
-ghost use Rattle.http_service.specs.Keys.{key_in};
+ghost use Rattle.http_exchange.specs.Keys.{key_in};
 
 use crate::handler::{ForgettingHandler, NodeHandler, RecordingHandler};
 use crate::served_node::ServedNode;

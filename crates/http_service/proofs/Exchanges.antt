@@ -17,12 +17,12 @@ use Rattle.hyper.specs.declared.error.Error.{Error}
 use Rattle.http_service.specs.declared.exchange.Exchange.{Exchange}
 use Rattle.http_service.specs.declared.exchange.Reading.{Reading}
 use Rattle.http_service.specs.declared.exchange.Reading.TheVariants as readings
-use Rattle.http_service.specs.declared.heads.Refusal.{Refusal}
-use Rattle.http_service.specs.declared.labels.Labels.{Labels}
-use Rattle.http_service.specs.Heads.{refusal_labels, refusal_reply}
-use Rattle.http_service.specs.declared.kept_body.KeptBody.{KeptBody}
+use Rattle.http_exchange.specs.declared.heads.Refusal.{Refusal}
+use Rattle.http_exchange.specs.declared.labels.Labels.{Labels}
+use Rattle.http_exchange.specs.Heads.{refusal_labels, refusal_reply}
+use Rattle.http_exchange.specs.declared.kept_body.KeptBody.{KeptBody}
 use Rattle.http_service.specs.Exchanges.{Piece, TakesIn, GoesOn, EndsSo, TakesFrom, GoesFrom, EndsFrom, IsAnswered, ReadsSo, Gives, GivesRead, IsRefused, Responds, asking_of, keeps_in, pieces_of}
-use Rattle.http_service.specs.Keeping.{HasCome}
+use Rattle.http_exchange.specs.Keeping.{HasCome}
 
 joined : (had : List ℕ) (fs gs : List (Frame (List ℕ))) → (had ++ joined_data fs) ++ joined_data gs ≡ had ++
     joined_data (fs ++ gs)

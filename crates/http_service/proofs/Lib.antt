@@ -2,11 +2,4 @@ mod Crossing
 mod Delays
 mod Endings
 mod Exchanges
-mod Fields
-mod Joined
-mod Loopback
-mod Marks
-mod Pieces
-mod Ports
 mod Questions
-mod Blocks

@@ -11,7 +11,7 @@ use Rattle.http_service.specs.declared.connection.Came.TheVariants.{Client, Gone
 use Rattle.http_service.specs.declared.connection.Clients.{Clients}
 use Rattle.http_service.specs.declared.connection.Offer.{Offer}
 use Rattle.http_routes.specs.declared.table.RouteSet.{RouteSet}
-use Rattle.http_service.specs.Keys.{key_in}
+use Rattle.http_exchange.specs.Keys.{key_in}
 
 -- only the connection is gone that was to be accepted
 abbrev pub IsGone : Error → Type 0

@@ -1,5 +1,5 @@
 -- What a request comes to whose body comes in frames.
-use Rattle.std.specs.Prelude.{◌≡◌, ◌⊎◌, ◌==◌, if◌then◌else◌, ◌<◌, ◌+◌, ◌++◌, ℕ, List, [], length, map, nat_lt, vec_capacity, Option, Some, None, Result, Ok, Err, MatchBool, MatchOption, codes, option_map, IfSome, IsSomeAnd, IsTrue, IsFalse, ◌↔◌}
+use Rattle.std.specs.Prelude.{◌≡◌, ◌⊎◌, ◌<◌, ◌+◌, ◌++◌, ℕ, List, [], length, map, nat_lt, vec_capacity, Option, Some, None, Result, Ok, Err, MatchBool, MatchOption, option_map, IfSome, IsSomeAnd, IsTrue, IsFalse, ◌↔◌, unwrap_or}
 use Rattle.std.specs.Arc.{arc_value}
 use Rattle.message_format.specs.Spelling.{max_message}
 use Rattle.futures.specs.Runs.{Runs}
@@ -7,9 +7,8 @@ use Rattle.http.specs.StatusCode.{IsStatusCode}
 use Rattle.http.specs.declared.request.Request.{Request}
 use Rattle.http.specs.declared.response.Response.{Response}
 use Rattle.http.specs.Request as request
-use Rattle.http.specs.Response.{head_of, body_of}
 use Rattle.http_header.specs.FieldValue.{FieldValue}
-use Rattle.http_header.specs.HeaderMap.{Entries, insert}
+use Rattle.http_header.specs.HeaderMap.{Entries}
 use Rattle.http_body.specs.declared.frame.Frame.{Frame}
 use Rattle.http_body.specs.Frame.{bytes_in, joined_data}
 use Rattle.http_body_util.specs.declared.full.Full.{Full}
@@ -24,7 +23,7 @@ use Rattle.http_routes.specs.declared.table.Keeps.TheVariants.{Nothing}
 use Rattle.http_routes.specs.declared.request.RequestFault.TheVariants as faults
 use Rattle.http_routes.specs.declared.table.Row.{Row}
 use Rattle.http_routes.specs.declared.http_reply.HttpReply.{HttpReply}
-use Rattle.http_routes.specs.Replies.{ReplyValue, IsReply, http_value, no_memory, request_fault_reply, text_reply}
+use Rattle.http_routes.specs.Replies.{ReplyValue, IsReply, http_value, no_memory, request_fault_reply}
 use Rattle.http.specs.Uri.{uri_path}
 use Rattle.hyper.specs.declared.body.incoming.Incoming.{Incoming}
 use Rattle.hyper.specs.declared.error.Error.{Error}
@@ -35,18 +34,19 @@ use Rattle.http_service.specs.declared.connection.Offer.{Offer}
 use Rattle.http_service.specs.declared.exchange.ConnectionService.{ConnectionService}
 use Rattle.http_service.specs.declared.exchange.Exchange.{Exchange}
 use Rattle.http_service.specs.declared.exchange.Reading.{Reading}
-use Rattle.http_service.specs.declared.heads.Admitted.{Admitted}
-use Rattle.http_service.specs.declared.heads.Refusal.{Refusal}
-use Rattle.http_service.specs.declared.labels.Labels.{Labels}
-use Rattle.http_service.specs.declared.kept_body.KeptBody.{KeptBody}
+use Rattle.http_exchange.specs.Accepted.{bad_digest}
+use Rattle.http_exchange.specs.declared.heads.Admitted.{Admitted}
+use Rattle.http_exchange.specs.declared.heads.Refusal.{Refusal}
+use Rattle.http_exchange.specs.declared.labels.Labels.{Labels}
+use Rattle.http_exchange.specs.declared.kept_body.KeptBody.{KeptBody}
 use Rattle.http_service.specs.declared.question.Question.{Question}
-use Rattle.http_service.specs.Keeping.{HasCome}
-use Rattle.http_service.specs.Labels.{label_fields, labels_of, plain_labels, with_tag}
-use Rattle.http_service.specs.Tags.{is_had, tag_of}
-use Rattle.http_service.specs.Heads.{refusal_labels, refusal_of, refusal_reply}
-use Rattle.http_service.specs.Seals.{is_altered}
-use Rattle.http_service.specs.Hosts.{authority_of}
-use Rattle.http_service.specs.Keys.{key_in, key_need}
+use Rattle.http_exchange.specs.Keeping.{HasCome}
+use Rattle.http_exchange.specs.Labels.{labels_of, plain_labels}
+use Rattle.http_exchange.specs.Responses.{IsResponseTo}
+use Rattle.http_exchange.specs.Heads.{refusal_labels, refusal_of, refusal_reply}
+use Rattle.http_exchange.specs.Seals.{is_altered}
+use Rattle.http_exchange.specs.Hosts.{authority_of}
+use Rattle.http_exchange.specs.Keys.{key_in, key_need}
 use Rattle.http_service.specs.declared.exchange.Reading.TheVariants as readings
 
 -- a connection's requests are those of the routes that are offered, of who has the access that is
@@ -119,8 +119,8 @@ abbrev pub question_value : {H : Type 0} → Question H → QuestionValue H
 question_value question =
     record {
       handler = arc_value question.handler;
-      asked = asked_value question.asked;
-      key = key_in question.access;
+      asked = asked_value question.accepted.asked;
+      key = key_in question.accepted.access;
     }
 
 -- what is asked of a handler, if there is one
@@ -136,10 +136,6 @@ pub record Asking (H : Type 0) : Type 0 where
 abbrev pub keeps_in : {H : Type 0} → Option (QuestionValue H) → Keeps
 keeps_in None = Nothing
 keeps_in (Some question) = keeps_of question.asked
-
--- the reply to a message that isn't as it was sent
-abbrev pub bad_digest : ReplyValue
-bad_digest = text_reply 400 (codes "bad digest")
 
 module _ (answers : RequestValue → Row → List ℕ → ReplyValue → Type 0) (key : Option (List ℕ))
     (fields : Entries FieldValue) where
@@ -172,38 +168,16 @@ module _ {H : Type 0} (answers : H → RequestValue → Row → List ℕ → Rep
   ComesTo asking (readings.Broken error) body given = given ≡ Err error
   ComesTo asking _ body (Err error) = ⊥
 
--- the response has the reply's status, its body, the fields that its labels say, and its tag, if it has one; where
--- memory was refused, one without a body may have none
-pub record IsWhole (tag : Option FieldValue) (labels : Labels) (reply : ReplyValue)
-    (response : Response (Full (List ℕ))) : Type 0 where
-  pub status : (head_of response).status ≡ reply.status
-  pub body : (body_of response).buf ≡ (if length reply.body == 0 then None else Some reply.body)
-  pub headers : ((head_of response).headers ≡ with_tag tag (label_fields labels))
-      ⊎ ((length reply.body ≡ 0) × ((head_of response).headers ≡ []))
-
--- the response says no more than that the body still has this tag
-pub record IsUnchanged (tag : FieldValue) (response : Response (Full (List ℕ))) : Type 0 where
-  pub status : (head_of response).status ≡ 304
-  pub body : (body_of response).buf ≡ None
-  pub headers : (head_of response).headers ≡ insert [] (codes "etag") tag
-
-abbrev pub IsResponseBy : Option FieldValue → Entries FieldValue → Labels → ReplyValue → Response (Full (List ℕ)) →
-    Type 0
-IsResponseBy None fields labels reply response = IsWhole None labels reply response
-IsResponseBy (Some tag) fields labels reply response =
-    MatchBool (is_had tag fields) (IsUnchanged tag response) (IsWhole (Some tag) labels reply response)
-
--- The response to a request with these fields is the whole reply; where it has a tag, and the request says that its
--- client has the body with that, no more than this.
-abbrev pub IsResponseTo : Entries FieldValue → Labels → ReplyValue → Response (Full (List ℕ)) → Type 0
-IsResponseTo fields labels reply response = IsResponseBy (tag_of labels.tagging reply.body) fields labels reply response
+-- a response whose body is one piece, or none where it has no byte, as one of these bytes
+abbrev pub as_bytes : Response (Full (List ℕ)) → Response (List ℕ)
+as_bytes response = record { head = response.head; body = unwrap_or response.body.buf [] }
 
 -- a reply to a request with these fields is given as a response with the labels of its status, if that is one and unless
 -- memory was refused; an error as it is
 abbrev pub Responds : Entries FieldValue → (ℕ → Labels) → Result HttpReply Error →
     Result (Response (Full (List ℕ))) Error → Type 0
 Responds fields labels (Ok reply) (Ok response) =
-    IsStatusCode reply.status → IsResponseTo fields (labels reply.status) (http_value reply) response
+    IsStatusCode reply.status → IsResponseTo fields (labels reply.status) (http_value reply) (as_bytes response)
 Responds fields labels (Ok reply) (Err error) = kind_of error ≡ kinds.OutOfMemory
 Responds fields labels (Err error) given = given ≡ Err error
 
@@ -254,7 +228,7 @@ module _ {I H R : Type 0} where
     pub asks : ((e.refusal ≡ None) × ((asking_of e).question
         ≡ question_to (option_map arc_value service.handler) (key_in service.access) (asked_by service req)))
         ⊎ ((asking_of e).question ≡ None)
-    pub admitted : IfSome e.question (λ question. IsAdmitted service req question.admitted)
+    pub admitted : IfSome e.question (λ question. IsAdmitted service req question.accepted.admitted)
     pub fields : e.fields ≡ (request.head_of req).headers
     pub told : IsTrue e.is_too_long ↔ TellsTooLong (request.body_of req)
     pub body : e.body ≡ record { remaining = max_message; inner = request.body_of req }

@@ -1,13 +1,4 @@
-pub mod Checked
 pub mod Clients
 pub mod Endings
 pub mod Exchanges
 pub mod FaultText
-pub mod Heads
-pub mod Hosts
-pub mod Keeping
-pub mod Keys
-pub mod Labels
-pub mod Letters
-pub mod Seals
-pub mod Tags

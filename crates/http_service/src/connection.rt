@@ -7,12 +7,12 @@ ghost use Rattle.tokio.specs.Timers.{IsDelayedBy, sleep_deadline, timeout_delay,
 ghost use Rattle.tokio.specs.Locks.{CanAcquire};
 ghost use Rattle.http_service.specs.Clients.{AreLetIn, IsGone, LetsIn};
 
-use crate::access::Access;
 use crate::fault::ServeFault;
 use crate::permits::{AllBack, Permits};
 use futures::executor::TaskSet;
 use futures::task::{Context, Poll};
 use futures::{Future, ready};
+use http_exchange::Access;
 use http_routes::RouteSet;
 use std::io;
 use std::io::ErrorKind;

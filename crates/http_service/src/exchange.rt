@@ -1,50 +1,40 @@
 //! One request and its reply.
 
-ghost use Rattle.std.specs.Prelude.{◌≡◌, ◌↔◌, ◌⊎◌, ◌<◌, ◌+◌, ◌++◌, ◌==◌, ℕ, List, length};
-ghost use Rattle.std.specs.Prelude.{[], true, option_copied, option_map, vec_capacity, if◌then◌else◌};
-ghost use Rattle.std.specs.Prelude.{IfOk, IfErr, IfSome, IsOk, IsTrue};
+ghost use Rattle.std.specs.Prelude.{◌≡◌, ◌↔◌, ◌⊎◌, ◌<◌, ℕ, List, length};
+ghost use Rattle.std.specs.Prelude.{true, option_copied, option_map, IfOk, IfSome, IsTrue};
 ghost use Rattle.message_format.specs.Spelling.{max_message};
-ghost use Rattle.http.specs.Response.{body_of, head_of};
 ghost use Rattle.std.specs.Arc.{arc_value};
 ghost use Rattle.futures.specs.Poll.{IfReady, OnPending};
 ghost use Rattle.futures.specs.Task.{IsArmed, Keeps};
-ghost use Rattle.http_body.specs.Frame.{bytes_in};
 ghost use Rattle.http_body_util.specs.declared.limited.LimitedError.TheVariants.{LengthLimit, Body};
-ghost use Rattle.hyper.specs.Error.{kind_of};
-ghost use Rattle.hyper.specs.declared.error.Kind.TheVariants as kinds;
 ghost use Rattle.tokio.specs.Locks.{CanAcquire};
-ghost use Rattle.http.specs.StatusCode.{IsStatusCode};
+ghost use Rattle.http_exchange.specs.Heads.{refusal_of};
+ghost use Rattle.http_exchange.specs.Keeping.{HasCome};
+ghost use Rattle.http_exchange.specs.Keys.{key_in, key_need};
 ghost use Rattle.http_routes.specs.Replies.{http_value};
 ghost use Rattle.http_routes.specs.Asked.{asked_value};
 ghost use Rattle.http_service.specs.Exchanges.{asking_of, keeps_in, labels_by, pieces_of, ComesTo};
 ghost use Rattle.http_service.specs.Exchanges.{question_to, question_value, EndsFrom, Gives, GoesFrom};
-ghost use Rattle.http_service.specs.Exchanges.{IsExchangeOf, IsResponseTo, Responds, TakesFrom};
-ghost use Rattle.http_service.specs.Keeping.{HasCome};
-ghost use Rattle.http_service.specs.Exchanges.{IsAnswered, IsAnswerTo, IsUnchanged, IsWhole, TellsTooLong};
-ghost use Rattle.http_service.specs.Heads.{refusal_of};
-ghost use Rattle.http_service.specs.Keys.{key_in, key_need};
-ghost use Rattle.http_service.specs.Labels.{label_fields, with_tag};
+ghost use Rattle.http_service.specs.Exchanges.{IsAnswered, IsAnswerTo, IsExchangeOf, Responds};
+ghost use Rattle.http_service.specs.Exchanges.{TakesFrom, TellsTooLong};
 
-use crate::access::{Access, key_need};
 use crate::handler::Handler;
-use crate::heads::{Admitted, Refusal, judge};
-use crate::hosts::authority_of;
-use crate::kept_body::KeptBody;
-use crate::labels::{Labels, tag_alone};
 use crate::permits::Permits;
 use crate::question::{Question, keeps_in};
-use crate::tags::{is_had, tag_of};
 use bytes::Bytes;
 use futures::task::{Context, Poll};
 use futures::{Future, Stream, ready};
-use http::header::{HeaderMap, HeaderValue};
+use http::header::HeaderMap;
 use http_body::{Body, Frame};
 use http_body_util::{Full, Limited, LimitedError};
+use http_exchange::{
+    Access, Admitted, KeptBody, Labels, Refusal, authority_of, judge, key_need, response,
+};
 use http_routes::{Asked, HttpReply, MAX_BODY, RouteSet, Routes};
 use hyper::body::Incoming;
 use hyper::service::Service;
-use hyper::{Request, Response, StatusCode};
-use std::alloc::{AllocError, Global};
+use hyper::{Request, Response};
+use std::alloc::Global;
 use std::mem;
 use std::sync::{Arc, Wait};
 use std::time::Clock;
@@ -127,7 +117,7 @@ impl<H, R> ConnectionService<H, R> {
             ≡ question_to (option_map arc_value self.now.handler) (key_in self.now.access)
             (asked_value asked.entry))
             ⊎ (result.1 ≡ None) }
-        ensures admitted { IfSome result.1 (λ question. question.admitted ≡ admitted) }
+        ensures admitted { IfSome result.1 (λ question. question.accepted.admitted ≡ admitted) }
     {
         if !needs_permit {
             return (
@@ -163,7 +153,7 @@ impl<H, R> ConnectionService<H, R> {
             (asked_value asked.entry)))
             ⊎ (result.question ≡ None) }
         ensures admitted { IfSome result.question (λ question.
-            (question.admitted.need ≡ key_need (asked_value asked.entry)) × (result.refusal ≡ None)) }
+            (question.accepted.admitted.need ≡ key_need (asked_value asked.entry)) × (result.refusal ≡ None)) }
     {
         match judge(fields, authority, &self.access, key_need(&asked), self.port) {
             Ok(admitted) => {
@@ -451,94 +441,6 @@ fn respond(
 ) -> hyper::Result<Response<Full<Bytes>>>
     ensures { Responds fields.now (λ _. labels) reply result }
 {
-    response(alloc, fields, reply?, labels)
-}
-
-// The reply as a response. The only error is out of memory: then the connection ends without a
-// reply, since none but this one may be told of an accepted call.
-fn response(
-    alloc: Global,
-    fields: &HeaderMap,
-    reply: HttpReply,
-    labels: Labels,
-) -> hyper::Result<Response<Full<Bytes>>>
-    ensures ok { IfOk result
-        (λ r. IsStatusCode reply.status → IsResponseTo fields.now labels (http_value reply) r) }
-    ensures err { IfErr result (λ e. kind_of e ≡ kinds.OutOfMemory) }
-    ensures empty { length reply.body.items ≡ 0 → IsOk result }
-{
-    match tag_of(alloc, labels.tagging, &reply.body)? {
-        Some(tag) if is_had(&tag, fields) => unchanged(alloc, tag),
-        tag => whole(alloc, reply, labels, tag),
-    }
-}
-
-// That the body still has this tag. The only error is out of memory.
-fn unchanged(alloc: Global, tag: HeaderValue) -> hyper::Result<Response<Full<Bytes>>>
-    ensures ok { IfOk result (IsUnchanged tag) }
-    ensures err { IfErr result (λ e. kind_of e ≡ kinds.OutOfMemory) }
-{
-    let fields = tag_alone(alloc, tag)?;
-    Ok(response_of(alloc, StatusCode::NOT_MODIFIED, fields, Bytes::new()))
-}
-
-// The whole reply, with its tag, if it has one. The only error is out of memory.
-fn whole(
-    alloc: Global,
-    reply: HttpReply,
-    labels: Labels,
-    tag: Option<HeaderValue>,
-) -> hyper::Result<Response<Full<Bytes>>>
-    ensures ok { IfOk result
-        (λ r. IsStatusCode reply.status → IsWhole tag labels (http_value reply) r) }
-    ensures err { IfErr result (λ e. kind_of e ≡ kinds.OutOfMemory) }
-    ensures empty { length reply.body.items ≡ 0 → IsOk result }
-{
-    let fields = fields_of(alloc, labels, tag, reply.body.is_empty())?;
-    let body = shared_bytes(reply.body)?;
-    let status = StatusCode::from_u16(reply.status).unwrap_or(StatusCode::SERVICE_UNAVAILABLE);
-    Ok(response_of(alloc, status, fields, body))
-}
-
-// The response of these.
-fn response_of(
-    alloc: Global,
-    status: StatusCode,
-    fields: HeaderMap,
-    body: Bytes,
-) -> Response<Full<Bytes>>
-    ensures status { (head_of result).status ≡ status }
-    ensures headers { (head_of result).headers ≡ fields }
-    ensures body { (body_of result).buf ≡ (if length body == 0 then None else Some body) }
-{
-    let mut response = Response::new(alloc, Full::new(body));
-    *response.status_mut() = status;
-    *response.headers_mut() = fields;
-    response
-}
-
-// The header fields of a response. One without a body is given without them where there is no
-// memory for them.
-fn fields_of(
-    alloc: Global,
-    labels: Labels,
-    tag: Option<HeaderValue>,
-    is_empty: bool,
-) -> Result<HeaderMap, AllocError>
-    ensures fields { IfOk result (λ fields.
-        (fields ≡ with_tag tag (label_fields labels)) ⊎ (IsTrue is_empty × (fields ≡ []))) }
-    ensures empty { IsTrue is_empty → IsOk result }
-{
-    match labels.fields(alloc, tag) {
-        Err(_) if is_empty => Ok(HeaderMap::new(alloc)),
-        fields => fields,
-    }
-}
-
-// Bytes that a response can hold.
-fn shared_bytes(body: Vec<u8>) -> Result<Bytes, AllocError>
-    ensures ok { IfOk result (λ bytes. bytes ≡ body.items) }
-    ensures empty { length body.items ≡ 0 → IsOk result }
-{
-    Ok(Bytes::from_vec(body)?)
+    let (head, body) = response(alloc, fields, reply?, labels)?.into_parts();
+    Ok(Response::from_parts(head, Full::new(body)))
 }

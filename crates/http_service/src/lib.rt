@@ -20,31 +20,20 @@
 //! the end: then no client is let in any more, and those that are being served have two seconds.
 #![tactic(auto)]
 
-mod access;
 mod connection;
 mod ending;
 mod exchange;
 mod fault;
 mod handler;
-mod heads;
-mod hosts;
-mod kept_body;
-mod key;
-mod labels;
-pub mod laws;
-mod letters;
 mod permits;
 mod question;
-mod seals;
 mod serving;
-mod tags;
-mod text_check;
 mod until_ended;
 
-pub use access::{Access, KeyFault};
 pub use connection::{Clients, Offer};
 pub use ending::{Ended, Ending, LastReply, Reason, Served};
 pub use fault::ServeFault;
 pub use handler::Handler;
+pub use http_exchange::{Access, KeyFault};
 pub use http_routes::HttpReply;
 pub use serving::{serve_all, serve_until_ended};

@@ -3,35 +3,28 @@
 ghost use Rattle.std.specs.Prelude.{◌≡◌, ◌⊎◌, ◌<◌, ℕ, List, length, option_map, IfSome};
 ghost use Rattle.std.specs.Arc.{arc_value};
 ghost use Rattle.message_format.specs.Spelling.{max_message};
+ghost use Rattle.http_exchange.specs.Keeping.{HasCome};
+ghost use Rattle.http_exchange.specs.Keys.{key_in};
+ghost use Rattle.http_exchange.specs.Labels.{labels_of};
+ghost use Rattle.http_header.specs.FieldValue.{FieldValue};
+ghost use Rattle.http_header.specs.HeaderMap.{Entries};
 ghost use Rattle.http_routes.specs.Asked.{asked_value, keeps_of};
 ghost use Rattle.http_routes.specs.Replies.{http_value};
 ghost use Rattle.http_service.specs.Exchanges.{keeps_in, question_to, question_value, AnswersAsked};
-ghost use Rattle.http_header.specs.FieldValue.{FieldValue};
-ghost use Rattle.http_header.specs.HeaderMap.{Entries};
-ghost use Rattle.http_service.specs.Keeping.{HasCome};
-ghost use Rattle.http_service.specs.Keys.{key_in};
-ghost use Rattle.http_service.specs.Labels.{labels_of};
 
-use crate::access::Access;
 use crate::handler::Handler;
-use crate::heads::Admitted;
-use crate::kept_body::KeptBody;
-use crate::labels::Labels;
-use crate::seals::is_altered;
 use http::header::HeaderMap;
-use http_routes::{Asked, HttpReply, Keeps, MAX_BODY, RequestFault};
+use http_exchange::{Accepted, Access, Admitted, KeptBody, Labels};
+use http_routes::{Asked, HttpReply, Keeps};
 use std::alloc::Global;
 use std::sync::{Arc, Wait};
 use std::time::Clock;
 
-/// What a request asks for, and whom, and what shows that its head was let in. It owns what it holds.
+/// What a request asks for, and whom. It owns what it holds.
 #[derive(Drop)]
 pub struct Question<H> {
     handler: Arc<H>,
-    asked: Asked<'static>,
-    // It has the key with which messages have to be sealed, if there is one.
-    access: Access,
-    admitted: Admitted,
+    accepted: Accepted,
 }
 
 impl<H> Question<H> {
@@ -47,24 +40,18 @@ impl<H> Question<H> {
         ensures asks { (option_map question_value result
             ≡ question_to (option_map arc_value handler.now) (key_in access.now)
             (asked_value asked.entry)) ⊎ (result ≡ None) }
-        ensures admitted { IfSome result (λ question. question.admitted ≡ admitted) }
+        ensures admitted { IfSome result (λ question. question.accepted.admitted ≡ admitted) }
     {
-        let asked = asked.into_owned(alloc).ok()?;
-        let access = access.again()?;
+        let accepted = Accepted::new(alloc, asked, access, admitted)?;
         let handler = Arc::try_clone(handler.as_ref()?).ok()?;
-        Some(Question {
-            handler,
-            asked,
-            access,
-            admitted,
-        })
+        Some(Question { handler, accepted })
     }
 
     /// What a reply with this status is labelled as.
     pub fn labels(&self, status: u16) -> Labels
-        ensures { result ≡ labels_of (asked_value self.now.asked) status }
+        ensures { result ≡ labels_of (asked_value self.now.accepted.asked) status }
     {
-        Labels::of(&self.asked, status)
+        self.accepted.labels(status)
     }
 }
 
@@ -73,7 +60,7 @@ pub fn keeps_in<H>(question: &Option<Question<H>>) -> Keeps
     ensures { result ≡ keeps_in (option_map question_value question.now) }
 {
     match question {
-        Some(question) => question.asked.keeps(),
+        Some(question) => question.accepted.keeps(),
         None => Keeps::Nothing,
     }
 }
@@ -88,30 +75,24 @@ impl<H: Handler> Question<H> {
         fields: &HeaderMap,
         body: KeptBody,
     ) -> HttpReply
-        ensures { (came : List ℕ) → HasCome (keeps_of (asked_value self.now.asked)) body came
-            → AnswersAsked (H.answers (arc_value self.now.handler)) (key_in self.now.access)
-            fields.now (asked_value self.now.asked) came (http_value result) }
+        ensures { (came : List ℕ) → HasCome (keeps_of (asked_value self.now.accepted.asked)) body came
+            → AnswersAsked (H.answers (arc_value self.now.handler)) (key_in self.now.accepted.access)
+            fields.now (asked_value self.now.accepted.asked) came (http_value result) }
     {
-        if let Some(fault) = self.asked.fault(body.count()) {
-            return HttpReply::refusal(alloc, fault);
+        match self.accepted.asking(alloc, fields, body) {
+            Ok(asking) => self
+                .handler
+                .reply(rt, alloc, asking.request, asking.row, asking.body),
+            Err(reply) => reply,
         }
-        let Asked::Known { request, row } = &self.asked else {
-            unreachable!()
-        };
-        let kept = body.into_bytes();
-        if is_altered(row.kind, self.access.key(), fields, &kept) {
-            return HttpReply::text(alloc, 400, "bad digest");
-        }
-        self.handler.reply(rt, alloc, request, *row, kept)
     }
 
     /// The reply to a body that is longer than the longest, whatever the rest of it and the fields are.
     pub fn reply_too_long(&self, alloc: Global) -> HttpReply
         ensures { (fields : Entries FieldValue) (longer : List ℕ) → max_message < length longer
-            → AnswersAsked (H.answers (arc_value self.now.handler)) (key_in self.now.access)
-            fields (asked_value self.now.asked) longer (http_value result) }
+            → AnswersAsked (H.answers (arc_value self.now.handler)) (key_in self.now.accepted.access)
+            fields (asked_value self.now.accepted.asked) longer (http_value result) }
     {
-        let fault = self.asked.fault(MAX_BODY + 1);
-        HttpReply::refusal(alloc, fault.unwrap_or(RequestFault::TooLong))
+        self.accepted.too_long(alloc)
     }
 }

@@ -7,11 +7,10 @@ ghost use Rattle.http_service.specs.declared.fault.ServeFault.TheVariants.{Accep
 ghost use Rattle.http_service.specs.Clients.{AreLetIn, Offers};
 ghost use Rattle.http_service.specs.Endings.{AreLetInOrEnded, IsServedTo};
 ghost use Rattle.http_service.specs.Exchanges.{IsOffered};
-ghost use Rattle.http_service.specs.Keys.{key_in};
+ghost use Rattle.http_exchange.specs.Keys.{key_in};
 ghost use Rattle.tokio.specs.Locks.{CanAcquire};
 ghost use Rattle.tokio.specs.Timers.{IsDelayedBy, sleep_deadline, timeout_delay, timeout_future};
 
-use crate::access::Access;
 use crate::connection::{Accepting, Clients, ConnectionFactory, ConnectionTask, Offer};
 use crate::ending::{Ending, Served};
 use crate::exchange::ConnectionService;
@@ -24,6 +23,7 @@ use futures::Future;
 use futures::executor::TaskSet;
 use futures::task::{Context, Poll};
 use http_body_util::Full;
+use http_exchange::Access;
 use http_routes::{RouteSet, Routes};
 use hyper::rt::TokioTimer;
 use hyper::server::conn::http1::{Builder, Connection};

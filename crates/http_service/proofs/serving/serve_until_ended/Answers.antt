@@ -4,7 +4,7 @@ use Rattle.std.proofs.Common.{◌≡◌, ap, rules, subst, IfOk}
 use Rattle.std.specs.Arc.{arc_value}
 use Rattle.std.proofs.lemmas.Result.{IfOk-weaker}
 use Rattle.http_service.specs.Endings.{IsServedTo}
-use Rattle.http_service.specs.Keys.{key_in}
+use Rattle.http_exchange.specs.Keys.{key_in}
 use Rattle.http_service.specs.declared.ending.Ending.{Ending}
 use Rattle.http_service.specs.declared.connection.Offer.{Offer}
 use Rattle.http_service.proofs.Crossing.{task_send}

@@ -2,7 +2,7 @@ use Rattle.std.proofs.Common.{◌≡◌, ◌∙◌, ap, sym, rules}
 use Rattle.std.proofs.lemmas.Option.{IfSome_then}
 use Rattle.http_routes.specs.Asked.{asked_value}
 use Rattle.http_service.specs.Exchanges.{asked_by, refusal_to}
-use Rattle.http_service.specs.Keys.{key_need}
+use Rattle.http_exchange.specs.Keys.{key_need}
 use Rattle.http_service.proofs.Questions.{asked_so}
 use Rattle.http_service.proofs.exchange.ConnectionServiceServiceRequestIncoming.call.Goals as goal
 

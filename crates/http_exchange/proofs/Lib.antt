@@ -1,0 +1,7 @@
+mod Blocks
+mod Fields
+mod Joined
+mod Loopback
+mod Marks
+mod Pieces
+mod Ports

@@ -1,0 +1,11 @@
+pub mod Accepted
+pub mod Checked
+pub mod Heads
+pub mod Hosts
+pub mod Keeping
+pub mod Keys
+pub mod Labels
+pub mod Letters
+pub mod Responses
+pub mod Seals
+pub mod Tags
