@@ -1,5 +1,5 @@
 -- How many clients a node served, and what telling its peers came to.
-use Rattle.std.specs.Prelude.{◌≡◌, ◌≤◌, ℕ, None, IsSome, IsSomeAnd, MatchOption}
+use Rattle.std.specs.Prelude.{◌≡◌, ◌≤◌, ◌||◌, ℕ, Bool, true, not, Option, None, Some, is_some, IsSomeAnd, MatchOption}
 use Rattle.http_service.specs.Endings.{IsEnded}
 use Rattle.http_service.specs.declared.ending.Ended.{Ended}
 use Rattle.http_service.specs.declared.ending.Ended.TheVariants as ended
@@ -34,6 +34,7 @@ pub record IsGossiped (wanted name ending : ℕ) (told : Gossiped) : Type 0 wher
   pub rounds : AreAllOrEarly wanted name told.rounds
   pub ended : MatchOption told.rounds.loss (told.ended ≡ None) (λ _. IsSomeAnd told.ended (IsSomeEnd ending))
 
--- a node that has lost its state isn't served as if it had not
-abbrev pub EndsByLoss : Rounds → NodeServed → Type 0
-EndsByLoss rounds served = IsSome rounds.loss → IsSome served.early
+-- where a round showed that the node has lost its state, its service came to an early end
+abbrev pub ends_by_loss : Option Rounds → NodeServed → Bool
+ends_by_loss None served = true
+ends_by_loss (Some rounds) served = not (is_some rounds.loss) || is_some served.early

@@ -2,7 +2,7 @@
 use Rattle.std.specs.Prelude.{◌≡◌, ◌<◌, ◌≤◌, ⊤, true, ℕ, List, length, Option, Some, IfSome, IsSomeAnd}
 use Rattle.std.specs.Prelude.{option_map, string_bytes}
 use Rattle.http_posts.specs.Keys.{credentials}
-use Rattle.http_service.specs.Keys.{are_credentials, key_in}
+use Rattle.http_exchange.specs.Keys.{are_credentials, key_in}
 use Rattle.node_calls.specs.declared.fault.NodeFault.TheVariants.{OutOfMemory}
 use Rattle.node_service.specs.declared.fault.ServiceFault.{ServiceFault}
 use Rattle.node_service.specs.declared.fault.ServiceFault.TheVariants as faults

@@ -1,6 +1,7 @@
 //! How a node was served.
 
-ghost use Rattle.std.specs.Prelude.{ℕ, IfSome, option_map, option_or, ◌≡◌};
+ghost use Rattle.std.specs.Option.{option_or};
+ghost use Rattle.std.specs.Prelude.{ℕ, IfSome, option_map, ◌≡◌};
 ghost use Rattle.std.specs.Arc.{arc_value};
 ghost use Rattle.http_service.specs.Endings.{IsServedTo};
 ghost use Rattle.node_service.specs.Endings.{IsNodeServed, IsSomeEnd, shown_reason};
@@ -40,7 +41,7 @@ impl NodeServed {
     pub(crate) fn or_ended<'a>(self, ending: &'a Ending, ended: Option<Ended<'a>>) -> NodeServed
         requires { IfSome ended (IsSomeEnd ending.now.reason.id) }
         ensures served { (wanted : ℕ) → IsNodeServed wanted self → IsNodeServed wanted result }
-        ensures early { result.early ≡ option_or self.early (option_map shown_reason ended) }
+        ensures early { result.early ≡ option_or self.early (option_map shown_reason ended.entry) }
     {
         let shown = match ended {
             Some(Ended::Now(token) | Ended::Before(token)) => Some(ending.reason(&token)),

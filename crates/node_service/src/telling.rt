@@ -1,13 +1,13 @@
 //! A node that is served, and its gossip beside it.
 
-ghost use Rattle.std.specs.Prelude.{◌≡◌, ◌⊎◌, false, IfOk, IfErr, IfSome};
+ghost use Rattle.std.specs.Prelude.{◌≡◌, ◌⊎◌, false, true, IfOk, IfErr, IfSome};
 ghost use Rattle.std.specs.Arc.{arc_value};
 ghost use Rattle.http_routes.specs.declared.table.RouteSet.TheVariants.{Program};
 ghost use Rattle.http_service.specs.Clients.{Offers};
 ghost use Rattle.http_service.specs.Endings.{IsServedTo};
-ghost use Rattle.http_service.specs.Keys.{key_in};
+ghost use Rattle.http_exchange.specs.Keys.{key_in};
 ghost use Rattle.http_service.specs.declared.fault.ServeFault.TheVariants.{AcceptFailed, OutOfMemory};
-ghost use Rattle.node_service.specs.Endings.{AreAllOrEarly, EndsByLoss, IsGossiped, IsNodeServed};
+ghost use Rattle.node_service.specs.Endings.{AreAllOrEarly, IsGossiped, IsNodeServed, ends_by_loss};
 
 use crate::calls::Calls;
 use crate::ended::NodeServed;
@@ -154,7 +154,7 @@ impl<'s> Promise<Gossiped<'s, 's>> for Tells<'s> {
 struct ServedAndTold<'s> {
     served: NodeServed,
     told: Option<Rounds<'s>>,
-    ghost lost: { IfSome told (λ rounds. EndsByLoss rounds served) },
+    ghost lost: { ends_by_loss told served ≡ true },
 }
 
 // Serves a node, with its gossip in a thread of the scope.
@@ -184,7 +184,7 @@ where
     };
     let thread = scope.spawn_with(
         promise,
-        move || -> Gossiped<'s, 's>
+        move || -> Gossiped
             ensures { IsGossiped telling.options.rounds service.entry.now.end.id
                 ending.entry.now.reason.id result }
         { tell(rt, registry, recorder, telling, heard, service, ending) },
