@@ -31,7 +31,7 @@ text_row set methods kind =
 
 -- the table. The status is asked for again and again, and is mostly what it was
 abbrev pub row_of : TargetValue → Row
-row_of paths.page = record (text_row sets.Program Get kinds.Page) { content = contents.Page }
+row_of paths.page = record (text_row sets.Served Get kinds.Page) { content = contents.Page }
 row_of paths.points = text_row sets.Node Get kinds.Read
 row_of (paths.point name) = record (text_row sets.Node PutOrDelete kinds.Call) { keeps = Text max_text }
 row_of paths.load = record (text_row sets.Node Post kinds.Call) { keeps = Text max_setting }
@@ -48,7 +48,8 @@ abbrev pub rank_of : RouteSet → ℕ
 rank_of sets.Node = 0
 rank_of sets.Library = 1
 rank_of sets.Cluster = 2
-rank_of sets.Program = 3
+rank_of sets.Served = 3
+rank_of sets.Program = 4
 
 -- whether a set has the routes of another
 abbrev pub includes : RouteSet → RouteSet → Bool

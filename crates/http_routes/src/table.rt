@@ -28,7 +28,9 @@ pub enum RouteSet {
     Library,
     /// What a served node answers that knows the other nodes of its cluster.
     Cluster,
-    /// What a program answers that an operator sees and ends.
+    /// What a program answers that serves its node, and that an operator sees in a browser.
+    Served,
+    /// What a program answers that an operator ends too.
     Program,
 }
 
@@ -125,7 +127,7 @@ impl Target<'_> {
         match self {
             Target::Page => Row {
                 content: Content::Page,
-                ..text_row(RouteSet::Program, Methods::Get, Kind::Page)
+                ..text_row(RouteSet::Served, Methods::Get, Kind::Page)
             },
             Target::Points => text_row(RouteSet::Node, Methods::Get, Kind::Read),
             Target::Point { .. } => Row {
@@ -174,7 +176,8 @@ impl RouteSet {
             RouteSet::Node => 0,
             RouteSet::Library => 1,
             RouteSet::Cluster => 2,
-            RouteSet::Program => 3,
+            RouteSet::Served => 3,
+            RouteSet::Program => 4,
         }
     }
 

@@ -1,0 +1,4 @@
+pub mod Heads
+pub mod Rejections
+pub mod Requests
+pub mod Stages
