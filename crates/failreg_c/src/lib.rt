@@ -9,5 +9,6 @@ mod keeping;
 mod pauses;
 mod readers;
 mod recording;
+mod serving;
 mod spreading;
 mod version;

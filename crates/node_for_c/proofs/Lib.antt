@@ -1,3 +1,6 @@
 pub mod AsBox
+pub mod Conversion
 pub mod Crossing
 mod NumberedPoints
+pub mod Owned
+mod Served

@@ -1,5 +1,5 @@
 -- What C is told of a call, and what the call leaves of the registry. Where C's node is closed there is none.
-use Rattle.std.specs.Prelude.{◌≡◌, ◌≢◌, ◌⊎◌, ℕ, List, [], ◌∷◌, ◌++◌, length, take, drop, slice_get, option_map, MatchOption, Option, Some, None, true, false, IsTrue, IsUtf8}
+use Rattle.std.specs.Prelude.{◌≡◌, ◌≢◌, ◌⊎◌, ℕ, Bool, List, [], ◌∷◌, ◌++◌, length, take, drop, slice_get, option_map, MatchOption, Option, Some, None, true, false, IsTrue, IsUtf8}
 use Rattle.rand_chacha.specs.ChaCha.{key_of}
 use Rattle.actions.specs.Names.{is_name}
 use Rattle.node_steps.specs.declared.config.Config.{Config}
@@ -61,6 +61,11 @@ abbrev pub said_in : Kept → List ℕ → Said → List ℕ
 said_in core room (saids.Bytes bytes) = bytes.items
 said_in core room (saids.TextAt index) = text_of (passed_at (call_kept core index))
 said_in core room saids.InRoom = room
+
+-- what is to be fetched isn't the text of an action
+abbrev pub holds_body : Said → Bool
+holds_body (saids.TextAt index) = false
+holds_body _ = true
 
 abbrev pub said_of : Registry → List ℕ
 said_of k = said_in k.core k.room k.said

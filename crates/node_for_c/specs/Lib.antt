@@ -7,3 +7,4 @@ pub mod Pauses
 pub mod Points
 pub mod Answered
 pub mod Parts
+pub mod Serving

@@ -1,7 +1,7 @@
 //! A node among the others of its cluster: whom it heard, what clients ask of it then, and whom it tells.
 
 ghost use Rattle.std.specs.Prelude.{◌≡◌, ◌≢◌, ◌==◌, ◌&&◌, [], false, is_none, is_some, length, not, IfErr, IfOk};
-ghost use Rattle.std.specs.Prelude.{OnErr, Some};
+ghost use Rattle.std.specs.Prelude.{OnErr, Some, true};
 ghost use Rattle.node_core.specs.Memory.{DeliveryNeedsMemory};
 ghost use Rattle.node_core.specs.Traces.{delivery_of, state_known};
 ghost use Rattle.http_routes.specs.Answers.{head_of};
@@ -11,7 +11,7 @@ ghost use Rattle.http_routes.specs.Requests.{wanted_asked};
 ghost use Rattle.report_text.specs.Status.{status_json_text};
 ghost use Rattle.peers.specs.Heard.{peer_rows};
 ghost use Rattle.node_for_c.specs.Answered.{IsNoRequest, MayLackMemoryTo};
-ghost use Rattle.node_for_c.specs.Calls.{IsRefused};
+ghost use Rattle.node_for_c.specs.Calls.{IsRefused, holds_body};
 ghost use Rattle.node_for_c.specs.Cluster.{AnswersBy, IsAnsweredAs, IsAnsweredAt, IsHeardAt, IsLeftNoting, IsTakenAt};
 ghost use Rattle.node_for_c.specs.Cluster.{IsLooked, LacksMemoryBy, course_by, course_of};
 ghost use Rattle.node_for_c.specs.Cluster.{awaited_in, fault_number, may_set};
@@ -208,6 +208,7 @@ impl Registry {
             self.old self.new }
         ensures memory { MayLackMemoryTo (wanted_asked (asked_value asked.now) body.now) result
             self.old self.new }
+        ensures said { holds_body self.new.said ≡ true }
     {
         let answer = self.answer_asked(alloc, asked, body);
         let outcome = outcome_of(answer.status, answer.fault);
@@ -228,6 +229,7 @@ impl Registry {
             result self.old self.new }
         ensures memory { LacksMemoryBy course (wanted_asked (asked_value asked.now) body.now)
             result self.old self.new }
+        ensures said { holds_body self.new.said ≡ true }
     {
         match course {
             Course::Greet => {
@@ -253,8 +255,15 @@ impl Registry {
     }
 
     // Answers what is asked of the node, at a time in milliseconds since 1970, and tells what that changed.
-    fn answer_known(&mut self, alloc: Global, asked: &Asked<'_>, body: &[u8], now: u64) -> Answered
-        ensures { IsAnsweredAs (asked_value asked.now) body.now now result self.old self.new }
+    pub(crate) fn answer_known(
+        &mut self,
+        alloc: Global,
+        asked: &Asked<'_>,
+        body: &[u8],
+        now: u64,
+    ) -> Answered
+        ensures told { IsAnsweredAs (asked_value asked.now) body.now now result self.old self.new }
+        ensures said { holds_body self.new.said ≡ true }
     {
         let awaited = self.book.awaited();
         let version = self.core.version();

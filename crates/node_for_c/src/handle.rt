@@ -1,52 +1,34 @@
-//! A registry as C holds it: a flag and one pointer, which owns the registry that it leads to.
+//! A box behind a pointer: what a struct that C holds owns.
 
 ghost use Rattle.std.specs.Prelude.{◌≡◌, Option, Some, None, IsSome, is_some, option_map};
-ghost use Rattle.node_for_c.specs.declared.registry.Registry.{Registry};
-ghost use Rattle.node_for_c.specs.Owned.{maybe_coded, handle_owns};
+ghost use Rattle.std.specs.Coded.{coded_option};
+ghost use Rattle.node_for_c.specs.Owned.{handle_owns};
 
 use crate::parts::Parts;
-use crate::registry::Registry;
 use std::alloc::Global;
 use std::marker::Model;
-use std::mem::replace;
 use std::ptr::null_mut;
 
-/// What C sees at the pointer of a handle: nothing.
-#[repr(C)]
+/// A pointer that owns what `Box<T>` does, or nothing: `kept` is the value that it leads to. To drop it
+/// forgets what it owns. A struct with a type parameter can't cross to C, so each `T` that C holds has a
+/// struct of its own with the same fields, which converts to a handle and back.
 #[derive(Drop)]
-pub struct Opaque {
-    byte: u8,
+pub struct Handle<T> {
+    pub ptr: *mut T,
+    pub alloc: Global,
+    pub ghost kept: { Option T } by { coded_option T.code },
 }
 
-/// A pointer that owns what `Box<Registry>` does, or nothing. To drop it forgets what it owns.
-#[repr(C)]
-#[derive(Drop)]
-pub struct Handle {
-    ptr: *mut Opaque,
-    alloc: Global,
-    pub ghost kept: { Option Registry } by { maybe_coded },
-}
-
-impl Model for Handle {
-    ghost also_owns = { λ h. handle_owns h.alloc h.ptr h.kept };
+impl<T> Model for Handle<T> {
+    ghost also_owns = { λ h. handle_owns T.row h.alloc h.ptr h.kept };
 }
 
 // What a handle leads to may go to another thread.
-unsafe impl Send for Handle {}
+unsafe impl<T: Send> Send for Handle<T> {}
 
-impl Handle {
-    fn of_parts(parts: Parts<Registry, Global>) -> Handle
-        ensures { result.kept ≡ Some parts.value }
-    {
-        let Parts { ptr, alloc } = parts;
-        Handle {
-            ptr: ptr as *mut Opaque,
-            alloc,
-        }
-    }
-
-    // A handle that owns nothing.
-    fn closed(alloc: Global) -> Handle
+impl<T> Handle<T> {
+    /// Returns a handle that owns nothing.
+    pub fn closed(alloc: Global) -> Handle<T>
         ensures { result.kept ≡ None }
     {
         Handle {
@@ -55,67 +37,38 @@ impl Handle {
         }
     }
 
-    fn into_parts(self) -> Parts<Registry, Global>
+    fn of_parts(parts: Parts<T, Global>) -> Handle<T>
+        ensures { result.kept ≡ Some parts.value }
+    {
+        let Parts { ptr, alloc } = parts;
+        Handle { ptr, alloc }
+    }
+
+    fn into_parts(self) -> Parts<T, Global>
         requires { IsSome self.kept }
         ensures { self.kept ≡ Some result.value }
     {
         let Handle { ptr, alloc } = self;
-        Parts {
-            ptr: ptr as *mut Registry,
-            alloc,
-        }
+        Parts { ptr, alloc }
     }
 }
 
-/// A node that C holds. One whose bytes are all zero is closed. `handle.kept` is the registry that
-/// an open one leads to.
-#[repr(C)]
-#[derive(Drop)]
-pub struct Node {
-    pub is_open: bool,
-    /// Leads to its registry, where it is open.
-    pub handle: Handle,
-    pub ghost agrees: { is_open ≡ is_some handle.kept },
-}
-
-impl Node {
-    /// Takes the registry out, if the node is open, and leaves the node closed.
-    pub fn take(&mut self, alloc: Global) -> Option<Box<Registry>>
-        ensures value { option_map (λ b. b.value) result ≡ self.old.handle.kept }
-        ensures closed { self.new.handle.kept ≡ None }
+impl<T: Drop> Handle<T> {
+    /// Returns the handle of a box.
+    pub fn of(value: Box<T>) -> Handle<T>
+        ensures { result.kept ≡ Some value.value }
     {
-        let closed = Node {
-            is_open: false,
-            handle: Handle::closed(alloc),
-        };
-        replace(self, closed).into_box()
+        Handle::of_parts(Parts::of(value))
     }
 
-    /// Closes the node, if it is open: what it held is given back.
-    pub fn close(&mut self, alloc: Global)
-        ensures { self.new.handle.kept ≡ None }
+    /// Returns the box, if the handle is open: if it owns one.
+    pub fn into_box(self, is_open: bool) -> Option<Box<T>>
+        requires { is_open ≡ is_some self.kept }
+        ensures { option_map (λ b. b.value) result ≡ self.kept }
     {
-        drop(self.take(alloc));
-    }
-
-    // The registry, if the node is open.
-    fn into_box(self) -> Option<Box<Registry>>
-        ensures { option_map (λ b. b.value) result ≡ self.handle.kept }
-    {
-        let Node { is_open, handle } = self;
         if !is_open {
             return None;
         }
-        Some(handle.into_parts().into_box())
-    }
-
-    /// The open node of a registry.
-    pub fn of(registry: Box<Registry>) -> Node
-        ensures { result.handle.kept ≡ Some registry.value }
-    {
-        Node {
-            is_open: true,
-            handle: Handle::of_parts(Parts::of(registry)),
-        }
+        Some(self.into_parts().into_box())
     }
 }

@@ -21,7 +21,7 @@ ghost use Rattle.node_for_c.specs.Calls.{IsNotSpreadBy, IsNotSpreadSet, IsShared
 ghost use Rattle.node_for_c.specs.Calls.{IsNotOpened, IsOpened, IsSpread, IsSpreadSet};
 ghost use Rattle.node_for_c.specs.Answered.{IsAnswered, IsAnsweredTo, IsNoRequest, MayLackMemory};
 ghost use Rattle.node_for_c.specs.Answered.{MayLackMemoryTo, reply_left};
-ghost use Rattle.node_for_c.specs.Calls.{cluster_in};
+ghost use Rattle.node_for_c.specs.Calls.{cluster_in, holds_body};
 ghost use Rattle.http_routes.specs.Asked.{asked_value};
 ghost use Rattle.http_routes.specs.Replies.{http_value};
 ghost use Rattle.http_routes.specs.Requests.{wanted_asked};
@@ -132,8 +132,8 @@ fn told_at(core: &NodeCore, index: u64) -> Act
     }
 }
 
-// Copies as much as there is room for, and answers the length of all.
-fn fill_front(said: &[u8], into: &mut [u8]) -> usize
+/// Copies as much as there is room for, and answers the length of all.
+pub fn fill_front(said: &[u8], into: &mut [u8]) -> usize
     ensures length { result ≡ length said.now }
     ensures bytes { FillsFront said.now into.old into.new }
 {
@@ -529,6 +529,7 @@ impl Registry {
             self.new }
         ensures memory { MayLackMemoryTo (wanted_asked (asked_value asked.now) body.now) result
             self.old self.new }
+        ensures said { holds_body self.new.said ≡ true }
     {
         let (core, room) = (&mut self.core, &mut self.room);
         match answer_in(core, alloc, room, asked, body) {
@@ -544,6 +545,7 @@ impl Registry {
     pub(crate) fn say_reply(&mut self, reply: HttpReply) -> Answer
         ensures answer { reply_left result self.new ≡ http_value reply }
         ensures same { self.new ≡ record self.old { said = self.new.said } }
+        ensures said { holds_body self.new.said ≡ true }
     {
         let HttpReply {
             status,

@@ -29,6 +29,38 @@ impl failreg {
 // `&mut`: any thread may make that call. The library's contract says so of its type.
 unsafe impl Send for failreg {}
 
+/// A service: the routes of a served node, at one port, for those who may send requests.
+#[repr(C)]
+#[derive(Debug)]
+pub struct failreg_service {
+    is_open: bool,
+    at: *mut core::ffi::c_void,
+}
+
+impl failreg_service {
+    /// The value of a service before it is opened.
+    pub const CLOSED: failreg_service = failreg_service {
+        is_open: false,
+        at: core::ptr::null_mut(),
+    };
+}
+
+/// A connection with a client, which has one request.
+#[repr(C)]
+#[derive(Debug)]
+pub struct failreg_http {
+    is_open: bool,
+    at: *mut core::ffi::c_void,
+}
+
+impl failreg_http {
+    /// The value of a connection before it is opened.
+    pub const CLOSED: failreg_http = failreg_http {
+        is_open: false,
+        at: core::ptr::null_mut(),
+    };
+}
+
 /// A version: the clock of a configuration and the node that made it.
 #[repr(C)]
 #[derive(Debug, Default, Clone, Copy, PartialEq, Eq)]
@@ -125,6 +157,8 @@ numbers! { STATUSES: u32;
     "`failreg_point` of this node returned no such number." FAILREG_E_NO_POINT = 33,
     "The node stores no call of this number." FAILREG_E_NO_ENTRY = 34,
     "The text isn't a call's line." FAILREG_E_NO_LINE = 35,
+    "A key has 32 bytes or more." FAILREG_E_BAD_KEY = 36,
+    "The connection waits for something else." FAILREG_E_NOT_NOW = 37,
 }
 
 numbers! { OUTCOMES: u8;
@@ -148,6 +182,17 @@ numbers! { DUE_KINDS: u8;
     "Nothing is due for the other node." FAILREG_DUE_NOTHING = 0,
     "Send it a message." FAILREG_DUE_TELL = 1,
     "Request a message from it." FAILREG_DUE_ASK = 2,
+}
+
+numbers! { HTTP_WANTS: u8;
+    "Bytes of the request's head." FAILREG_HTTP_HEAD = 0,
+    "Leave for a body over 64 KiB." FAILREG_HTTP_PERMIT = 1,
+    "Bytes of its body." FAILREG_HTTP_BODY = 2,
+    "The node's answer." FAILREG_HTTP_ANSWER = 3,
+    "That the answer is sent, once it is journaled." FAILREG_HTTP_TELL = 4,
+    "That its output is sent." FAILREG_HTTP_WRITE = 5,
+    "To be closed: first read and drop for up to 1 s what arrives." FAILREG_HTTP_LINGER = 6,
+    "To be closed." FAILREG_HTTP_CLOSE = 7,
 }
 
 /// No node: what [`failreg_awaited`] returns if calls don't wait.
@@ -451,6 +496,81 @@ unsafe extern "C" {
     /// Makes the lines of the accepted calls from this number on, each with its newline, for
     /// `failreg_fetch`.
     pub safe fn failreg_part_lines(node: &mut failreg, from: u64) -> u32;
+
+    /// Opens a closed service for a port: with a key for who sends it, without one for this machine.
+    ///
+    /// # Safety
+    /// `key` leads to `key_len` bytes.
+    pub fn failreg_service_open(
+        service: &mut failreg_service,
+        port: u16,
+        key: Bytes,
+        key_len: usize,
+        secret: u64,
+        more_secret: u64,
+    ) -> u32;
+
+    /// Closes a service, if it is open.
+    pub safe fn failreg_service_close(service: &mut failreg_service);
+
+    /// Opens a closed connection, on which nothing arrived yet.
+    pub safe fn failreg_http_open(http: &mut failreg_http) -> u32;
+
+    /// Closes a connection, if it is open.
+    pub safe fn failreg_http_close(http: &mut failreg_http);
+
+    /// Returns what a connection waits for, such as [`FAILREG_HTTP_HEAD`].
+    pub safe fn failreg_http_wants(http: &mut failreg_http) -> u8;
+
+    /// Takes bytes that arrived, at this time in seconds since 1970.
+    ///
+    /// # Safety
+    /// `bytes` leads to `bytes_len` bytes.
+    pub fn failreg_http_feed(
+        http: &mut failreg_http,
+        service: &mut failreg_service,
+        bytes: Bytes,
+        bytes_len: usize,
+        now_s: u64,
+    ) -> u32;
+
+    /// The client sends no more, or its time is over.
+    pub safe fn failreg_http_end(http: &mut failreg_http) -> u32;
+
+    /// Lets a long body come.
+    pub safe fn failreg_http_permit(http: &mut failreg_http, now_s: u64) -> u32;
+
+    /// `[entry]` Has the node handle the request, at this time in milliseconds since 1970.
+    pub safe fn failreg_http_answer(
+        node: &mut failreg,
+        http: &mut failreg_http,
+        now_ms: u64,
+        answered: &mut failreg_answered,
+    ) -> u32;
+
+    /// Has the answer sent.
+    pub safe fn failreg_http_tell(http: &mut failreg_http, now_s: u64) -> u32;
+
+    /// Has another response sent in place of the answer.
+    ///
+    /// # Safety
+    /// `text` leads to `text_len` bytes.
+    pub fn failreg_http_tell_instead(
+        http: &mut failreg_http,
+        status: u16,
+        text: Bytes,
+        text_len: usize,
+        now_s: u64,
+    ) -> u32;
+
+    /// Copies the next bytes to send, and returns how many they are.
+    ///
+    /// # Safety
+    /// `into` leads to `room` bytes that may be written.
+    pub fn failreg_http_output(http: &mut failreg_http, into: *mut u8, room: usize) -> usize;
+
+    /// The first `count` of these bytes were sent.
+    pub safe fn failreg_http_sent(http: &mut failreg_http, count: usize) -> u32;
 
     /// Lists the points that are set, for `failreg_fetch`.
     pub safe fn failreg_list(node: &mut failreg) -> u32;

@@ -1,7 +1,8 @@
 //! The numbers, the calls and the texts of statuses here are exactly those of `failreg.h`.
 
 use failreg_sys::{
-    DUE_KINDS, FAILREG_NOBODY, FAILREG_VERSION, OUTCOMES, STATUSES, TASKS, failreg_version,
+    DUE_KINDS, FAILREG_NOBODY, FAILREG_VERSION, HTTP_WANTS, OUTCOMES, STATUSES, TASKS,
+    failreg_version,
 };
 use std::collections::BTreeMap;
 
@@ -31,6 +32,7 @@ fn numbers_are_those_of_the_header() {
     assert_eq!(numbers_of("failreg_outcome"), wide(OUTCOMES));
     assert_eq!(numbers_of("failreg_task"), wide(TASKS));
     assert_eq!(numbers_of("failreg_due_kind"), wide(DUE_KINDS));
+    assert_eq!(numbers_of("failreg_http_wants"), wide(HTTP_WANTS));
     assert!(HEADER.contains(&format!("#define FAILREG_NOBODY {FAILREG_NOBODY}\n")));
 }
 

@@ -274,7 +274,9 @@ fn kind_of(status: u32) -> Option<ErrorKind> {
         | failreg_sys::FAILREG_E_ZERO_AMOUNT
         | failreg_sys::FAILREG_E_BAD_WORDS
         | failreg_sys::FAILREG_E_NO_POINT
-        | failreg_sys::FAILREG_E_NO_ENTRY => ErrorKind::BadArgument,
+        | failreg_sys::FAILREG_E_NO_ENTRY
+        | failreg_sys::FAILREG_E_NOT_NOW => ErrorKind::BadArgument,
+        failreg_sys::FAILREG_E_BAD_KEY => ErrorKind::BadKey,
         failreg_sys::FAILREG_E_DIFFERS | failreg_sys::FAILREG_E_NO_LINE => ErrorKind::BadPart,
         failreg_sys::FAILREG_E_TOO_FEW_RIGHTS => ErrorKind::TooFewRights,
         failreg_sys::FAILREG_E_CLOCK_FULL | failreg_sys::FAILREG_E_CELL_FULL => {

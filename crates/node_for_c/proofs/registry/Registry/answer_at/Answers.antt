@@ -10,4 +10,4 @@ returns-clause-ok c =
     ∙ ap (λ m. asked_of Cluster m c.in-Ok-from_utf8.path.now) c.in-Ok.ensures.cases.0
     ∙ ap (λ p. asked_of Cluster c.args.method.now p) c.in-Ok-from_utf8.ensures.cases.0 in
     subst (λ a. IsAnsweredAs a c.args.body.now c.args.now c.answer_known.result c.args.self.now c.answer_known.new.self)
-    asked c.answer_known.ensures
+    asked c.answer_known.ensures.told

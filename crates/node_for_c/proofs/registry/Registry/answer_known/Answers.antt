@@ -5,8 +5,8 @@ use Rattle.http_routes.specs.Requests.{wanted_asked}
 use Rattle.node_for_c.specs.Cluster.{AnswersBy, LacksMemoryBy, awaited_in, may_set, version_in}
 use Rattle.node_for_c.proofs.registry.Registry.answer_known.Goals as goal
 
-pub returns : goal.returns
-returns c =
+pub returns-clause-told : goal.returns-clause-told
+returns-clause-told c =
     let k = c.args.self.now in
     let l = c.answer_by-answer.new.self in
     let asked = asked_value c.args.asked.now in
