@@ -15,7 +15,7 @@ KEY = bytes(range(32))
 SERVERS = ("serve", "rust", "c")
 MODES = ("unkeyed", "keyed")
 # What follows a row's name: where it is played, and how.
-FLAGS = {*MODES, "c", "ends", "great", "stops"}
+FLAGS = {*MODES, "ends", "great", "stops"}
 ESCAPE = re.compile(r"\\(x[0-9a-fA-F]{2}|[rnts0\\])")
 ESCAPED = {"r": "\r", "n": "\n", "t": "\t", "s": " ", "0": "\0", "\\": "\\"}
 REPEATED = re.compile(r"\{(.+?) \* (\d+)\}")
@@ -69,7 +69,8 @@ class Row:
 
     def answer(self, server, mode):
         """What has to come of a server: what is said of it, or of all."""
-        for whose in (f"{server} {mode}", server, mode, "all"):
+        others = () if server == "serve" else ("others",)
+        for whose in (f"{server} {mode}", server, *others, mode, "all"):
             if whose in self.answers:
                 return self.answers[whose]
         raise BadTable(f"line {self.line}: {self.name}: no answer at {server}, {mode}")
@@ -78,10 +79,10 @@ class Row:
         """Whether it waits for a time limit, or sends much."""
         return self.takes > 0 or "great" in self.flags
 
-    def is_played(self, server, mode):
+    def is_played(self, mode):
         """Whether it is played at a server with this mode."""
         modes = self.flags.intersection(MODES)
-        return (not modes or mode in modes) and (server != "c" or "c" in self.flags and mode == "unkeyed")
+        return not modes or mode in modes
 
 
 def bytes_of(text):
@@ -185,7 +186,7 @@ class Reader:
             row.answers["all"] = self.last = answer_of(rest, number)
         elif word.startswith("<"):
             whose, _, told = (word[1:] + " " + rest).partition(": ")
-            if not set(whose.split()) <= {*SERVERS, *MODES}:
+            if not set(whose.split()) <= {*SERVERS, *MODES, "others"}:
                 raise BadTable(f"line {number}: no server or mode: {whose}")
             row.answers[whose] = self.last = answer_of(told, number)
         else:

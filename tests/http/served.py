@@ -1,7 +1,6 @@
 """Servers that are started to play requests at, and exchanges with them."""
 
 import os
-import random
 import select
 import socket
 import subprocess
@@ -115,19 +114,6 @@ def can_listen(address):
         return False
 
 
-def free_ports(count):
-    """Ports at which nobody listens, below those that the system gives to connections."""
-    ports = []
-    while len(ports) < count:
-        port = random.randrange(10_000, 32_000)
-        try:
-            socket.create_server(("127.0.0.1", port)).close()
-            ports.append(port)
-        except OSError:
-            pass
-    return ports
-
-
 class Server:
     """A program that serves node 0 of 2 at an address of this machine, without a key or with one."""
 
@@ -135,18 +121,15 @@ class Server:
         self.kind, self.mode, self.address = kind, mode, address
         self.errors = tempfile.TemporaryFile()
         self.key_file = None
-        self.ports = free_ports(2) if kind == "c" else []
         how = {"stdin": subprocess.PIPE, "stdout": subprocess.PIPE, "stderr": self.errors}
         try:
-            self.process = subprocess.Popen(self.words(program), env=self.environment(), **how)
+            self.process = subprocess.Popen(self.words(program), **how)
         except OSError as error:
             raise CannotStart(f"{program}: {error.strerror}") from error
         self.port = self.listening()
 
     def words(self, program):
         """The words of the command line."""
-        if self.kind == "c":
-            return [program, str(self.ports[0])]
         host = f"[{self.address}]" if ":" in self.address else self.address
         words = [program, "serve", "--node", "0", "--nodes", "2", "--listen", f"{host}:0", "--requests", "1000000", "--cap", "1000000"]
         if self.mode == "keyed":
@@ -156,14 +139,8 @@ class Server:
             words += ["--key-file", self.key_file.name]
         return words
 
-    def environment(self):
-        """The environment: that of a C program names its node."""
-        if self.kind != "c":
-            return None
-        return {**os.environ, "FAILREG_NODE": "0/2", "FAILREG_LISTEN": f"127.0.0.1:{self.ports[1]}"}
-
     def listening(self):
-        """The port that it prints once it listens: `listening 7070`, or `served at 127.0.0.1:7070`."""
+        """The port that it prints once it listens: `listening 7070`."""
         deadline = time.monotonic() + START_SECONDS
         line = b""
         while not line.endswith(b"\n"):
@@ -174,8 +151,8 @@ class Server:
             if not byte:
                 break
             line += byte
-        port = line.split()[-1].rpartition(b":")[2] if line.split() else b""
-        if not line.startswith((b"listening ", b"served at ")) or not port.isdigit():
+        port = line.split()[-1] if line.split() else b""
+        if not line.startswith(b"listening ") or not port.isdigit():
             said = self.said()
             self.end()
             raise CannotStart(f"it printed {line!r} in place of the port. {said}")
