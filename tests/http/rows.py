@@ -1,4 +1,4 @@
-"""The table of requests, requests.txt: its form is told in README.md."""
+"""The table of requests, requests.txt: README.md describes its form."""
 
 from __future__ import annotations
 

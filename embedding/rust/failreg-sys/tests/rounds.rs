@@ -127,7 +127,7 @@ fn a_node_is_told_what_is_due() {
     for peer in [0, 1, 2, 3, 255] {
         assert_eq!(due(&mut node, peer), FAILREG_DUE_NOTHING);
     }
-    // Who asks is told, though there is nothing new.
+    // A node that asks is sent the state, though nothing is new.
     assert_eq!(answered(&mut node, "POST", "/hello", b"1").0.status, 400);
     let (told, body) = answered(&mut node, "POST", "/hello", b"2");
     assert_eq!((told.status, body.as_str()), (200, "telling"));

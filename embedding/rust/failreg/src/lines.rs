@@ -45,7 +45,7 @@ enum Place {
 pub struct Lines {
     place: Place,
     fields: usize,
-    /// Whether a newline has no CR before it. The sender is told once all has arrived.
+    /// Whether a newline has no CR before it. The sender gets the error once all has arrived.
     has_bare_newline: bool,
     /// Whether the target is UTF-8.
     target: TextCheck,
