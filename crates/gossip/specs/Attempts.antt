@@ -45,7 +45,7 @@ abbrev pub with_tries : Tries → List Attempt → List Attempt
 with_tries [] attempts = attempts
 with_tries (t ∷ ts) attempts = with_tries ts (slice_set attempts t.0 t.1)
 
--- what is told as failed of them
+-- which of them failed, and why
 abbrev pub failed_by : ℕ → Attempt → List failures.Failed
 failed_by peer (Failed (NotSent why)) = failed_as peer why ∷ []
 failed_by peer _ = []

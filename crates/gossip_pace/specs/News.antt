@@ -61,6 +61,6 @@ first_pace node = record {
   waits = 0;
 }
 
--- one by which its peer is told in the next round, though there may be no news, and though it wasn't reached before
+-- the pace that sends to its peer in the next round, even if nothing changed and even if it wasn't reached before
 abbrev pub asked_pace : Pace → Pace
 asked_pace p = record p { told_known = 18446744073709551615; has_missed = false; waits = 0 }

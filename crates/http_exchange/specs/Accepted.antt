@@ -1,4 +1,4 @@
--- What a request whose head was let in comes to before a node is asked.
+-- What follows from a request whose head was let in, before a node handles it.
 use Rattle.std.specs.Prelude.{◌≡◌, ℕ, List, length, nat_lt, Option, Result, Ok, Err, MatchBool, codes}
 use Rattle.http_exchange.specs.Seals.{is_altered}
 use Rattle.http_exchange.specs.declared.accepted.Asking.{Asking}

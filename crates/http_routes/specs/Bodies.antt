@@ -24,6 +24,6 @@ IsKept (Text longest) body kept =
     ⊎ ((longest + 1 < length body) × (length kept ≡ longest + 1) × (is_utf8 kept ≡ is_utf8 body))
 IsKept Whole body kept = kept ≡ body
 
--- at a node one of two wants comes to what the other comes to
+-- a node does the same for both of two wants
 abbrev pub AreAlike : Kept → WantedValue → WantedValue → Type 0
 AreAlike k wanted other = (new : Kept) (given : ReplyValue) → Comes k wanted new given ↔ Comes k other new given

@@ -1,4 +1,4 @@
--- How the reading of a body goes on and ends, piece by piece, and what an exchange gives by that.
+-- How a body is read, piece by piece, to its end, and what an exchange gives by that.
 use Rattle.std.proofs.Common.{◌≡◌, ℕ, List, [], ◌∷◌, ◌++◌, map, Option, Some, None, Result, Ok, Err, inl, inr, refl, sym, ap, ◌∙◌, subst, IfSome, IsFalse, IsTrue, MatchOption, append_assoc, append-nil}
 use Rattle.std.specs.Prelude.{vec_capacity}
 use Rattle.std.proofs.lemmas.List.{map-append}
@@ -193,7 +193,7 @@ module _ {I H R : Type 0} (answers : H → RequestValue → Row → List ℕ →
             (answered end.0 (subst (λ a. HasCome (keeps_in a.question) mid.kept end.0) (sym same) end.2));
       })
 
-  -- a body that is told to be too long is answered so
+  -- a body whose length is declared as too long is rejected as too long
   pub gives_long : (old : Exchange I H R) (given : Result (Response (Full (List ℕ))) Error)
       → old.refusal ≡ None → IsTrue old.is_too_long
       → ((came : List ℕ) → CameOf old came → IsAnswered answers (asking_of old) readings.TooLong came given)

@@ -53,7 +53,7 @@ pub enum Wants {
     Tell,
     /// That its output is sent (`output`, then `sent`).
     Write,
-    /// To be closed, once what the client still sends was read and dropped for a moment, so that the client comes to
+    /// To be closed, once what the client still sends was read and dropped for a moment, so that the client can
     /// read the reply.
     Linger,
     /// To be closed.
@@ -365,7 +365,7 @@ impl Connection {
         }
     }
 
-    // Rejects a request before anything is asked. What its client goes on sending isn't read.
+    // Rejects a request before anything is asked. What its client still sends isn't read.
     fn reject(&mut self, rejection: Rejection, now: u64) {
         self.has_more = true;
         let reply = rejection.reply(self.alloc);

@@ -1,4 +1,4 @@
--- What C is told of a node among the others of its cluster, and what each call leaves of the registry.
+-- What C gets of a node among the others of its cluster, and what each call leaves of the registry.
 use Rattle.std.specs.Prelude.{◌≡◌, ◌==◌, ◌&&◌, ℕ, Bool, true, false, not, is_none, is_some, if◌then◌else◌, List, [], length, MatchOption, Option, Some, None}
 use Rattle.http_routes.specs.declared.table.Kind.{Kind}
 use Rattle.http_routes.specs.declared.table.Kind.TheVariants as kinds
@@ -92,7 +92,7 @@ AnswersBy courses.Show wanted body now answer k l =
 AnswersBy courses.Hear wanted body now answer k l = IsHeardAt wanted body now answer k l
 AnswersBy courses.Answer wanted body now answer k l = IsAnsweredTo wanted answer k l
 
--- that memory was refused is told of a message, and of what a node alone answers, only where the node needed some
+-- a message, or what a node alone answers, is out of memory only if the node needed some
 abbrev pub LacksMemoryBy : Course → WantedValue → Answer → Registry → Registry → Type 0
 LacksMemoryBy courses.Hear wanted answer k l = MayLackMemoryTo wanted answer k l
 LacksMemoryBy courses.Answer wanted answer k l = MayLackMemoryTo wanted answer k l
@@ -119,11 +119,11 @@ fault_number (Some fault) = code_of fault
 abbrev pub version_in : Registry → ℕ
 version_in k = (node_of k.core).marks.version
 
--- what is told of a request that isn't answered
+-- the result for a request that isn't answered
 abbrev pub unanswered : Answered
 unanswered = record { status = 0; fault = 0; changes_settings = false; has_heard_all = false }
 
--- what C is told besides the body
+-- what C gets with the body
 abbrev pub IsToldOf : AskedValue → Answer → Answered → Registry → Registry → Type 0
 IsToldOf asked answer told k l =
     (told.status ≡ answer.status) × (told.fault ≡ fault_number answer.fault) ×

@@ -55,7 +55,7 @@ pub record IsServiceOf (number : ℕ) (secret : List ℕ) (service : Service) : 
   pub port : service.port ≡ number
   pub key : key_in service.access ≡ (if length secret == 0 then None else Some secret)
 
--- the number by which C is told what a connection waits for
+-- the number that stands in C for what a connection waits for
 abbrev pub wants_number : Wants → ℕ
 wants_number wants.Head = 0
 wants_number wants.Permit = 1

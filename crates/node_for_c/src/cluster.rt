@@ -36,10 +36,10 @@ pub struct Answered {
     pub has_heard_all: bool,
 }
 
-/// The number that is told where there is no node: none has it.
+/// The number that means no node: none has it.
 pub const NOBODY: u8 = 255;
 
-/// What is told of a request that isn't answered.
+/// The result for a request that isn't answered.
 pub const UNANSWERED: Answered = Answered {
     status: 0,
     fault: 0,

@@ -1,4 +1,4 @@
--- A call that a node accepted fixes what is told of it, to the byte.
+-- A call that a node accepted fixes its outcome, to the byte.
 use Rattle.std.proofs.Common.{◌≡◌, ℕ, ◌≤◌, ◌^◌, Bool, true, false, List, [], ◌∷◌, length, Option, Some, None, Result, Ok, Err, inl, inr, ◌⊎◌, refl, sym, ap, ◌∙◌, subst, arith}
 use Rattle.std.proofs.lemmas.Bool.{cases_Bool, true≢false}
 use Rattle.std.proofs.lemmas.Option.{none-some, same_Some}
@@ -192,7 +192,7 @@ was_sent i n (Emit to versions chosen) words read h =
     (message_to i to versions chosen, sym (same_Some (Ok (message_to i to versions chosen)) read h))
 was_sent i n (Deliver brings) words read h = absurd (none-some read h)
 
--- ---- so it fixes what is told
+-- ---- so it fixes the outcome
 
 module _ (nodes : ℕ) (few : nodes ≤ 2 ^ 8) where
   same_bytes : (a b : List ℕ) (m : Message) → AreBytes a → AreBytes b → message_read nodes a ≡ message_read nodes b →

@@ -38,7 +38,7 @@ abbrev pub are_made : Calls → Bool
 are_made calls.Unrecorded = true
 are_made (calls.Recorded state) = state.goes_on
 
--- a peer that asked is told in the round, whether or not there is news
+-- a peer that asked is sent the state in the round, whether or not it changed
 abbrev pub greeted_by : AskState → Pace → Pace
 greeted_by asking pace = if asking.has_asked then asked_pace pace else pace
 

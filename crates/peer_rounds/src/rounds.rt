@@ -114,7 +114,7 @@ struct Made<'s> {
 }
 
 // Makes a round over a wire. It shares rights first, where they follow demand and calls are made. Then it
-// tells only news, and only who is reached, but who asked is told anyway. Who is to be heard before calls are
+// sends only news, and only to who is reached, but who asked is answered anyway. Who is to be heard before calls are
 // made is asked to tell. Each message that it takes in from the wire is noted, and so is what came of those that
 // were due. If one shows that the node has lost its state, the service ends.
 fn make_round<'s, L, R, W>(

@@ -22,7 +22,7 @@ use std::time::Clock;
 pub enum Calls {
     /// They aren't recorded, so they are.
     Unrecorded,
-    /// They are as long as the recording goes on.
+    /// They are as long as the recording continues.
     Recorded(RecordingState),
 }
 

@@ -1,4 +1,4 @@
--- When another node is told, and when it is asked to tell.
+-- When another node is sent the state, and when it is asked for its own.
 use Rattle.std.specs.Prelude.{◌==◌, ◌&&◌, ℕ, Bool, if◌then◌else◌}
 use Rattle.gossip_pace.specs.declared.news.News.{News}
 use Rattle.gossip_pace.specs.declared.news.Pace.{Pace}
@@ -19,7 +19,7 @@ first_pacing node = record {
 abbrev pub asks : Bool → Pacing → Bool
 asks is_awaited p = is_awaited && (p.asking.waits == 0)
 
--- when it is told: at once if it asked to be told
+-- when it is sent the state: at once if it asked
 abbrev pub telling_at : Bool → Pacing → Pace
 telling_at has_asked p = if has_asked then asked_pace p.telling else p.telling
 

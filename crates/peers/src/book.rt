@@ -20,8 +20,8 @@ use node_core::NodeCore;
 use report_text::PeerRow;
 use std::alloc::{AllocError, Global};
 
-/// What a node knows of the other nodes of its cluster, besides the counts: which it heard, who asked to be
-/// told, and when each is told.
+/// What a node knows of the other nodes of its cluster, besides the counts: which it heard, who asked for
+/// the state, and when each is sent it.
 #[derive(Drop)]
 pub struct PeerBook {
     pub cluster: Cluster,
@@ -29,7 +29,7 @@ pub struct PeerBook {
     pub hearing: Hearing,
     pub heard: Heard,
     pub asked: Asked,
-    /// When each is told, of those that were looked at.
+    /// When each is sent the state, of those that were looked at.
     pub pacings: [Option<Pacing>; MAX_NODES as usize],
 }
 
@@ -90,7 +90,7 @@ impl PeerBook {
         greeting(alloc, asker)
     }
 
-    // When a node is told.
+    // When a node is sent the state.
     fn pacing(&self, peer: u8) -> Pacing
         ensures { result ≡ pacing_at self.now.pacings peer }
     {

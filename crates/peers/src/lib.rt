@@ -1,5 +1,5 @@
 //! What a node knows of the other nodes of its cluster, besides the counts: of which of them it accepted a
-//! message, which it rejected, who asked to be told, and when each is told.
+//! message, which it rejected, who asked for the state, and when each is sent it.
 //!
 //! There is no lock in it, no clock and no socket. `PeerBook` is all of it, for a program that carries
 //! messages itself. A served node has `Heard` and `Asked` behind locks (`http_peers`).

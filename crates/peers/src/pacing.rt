@@ -1,4 +1,4 @@
-//! When another node is told, and when it is asked to tell.
+//! When another node is sent the state, and when it is asked for its own.
 
 ghost use Rattle.std.specs.Prelude.{◌≡◌, None, Some};
 ghost use Rattle.peers.specs.Pacing.{asks, due_for, first_pacing, looked, missed_pacing, telling_at};
@@ -11,16 +11,16 @@ use gossip_pace::{News, Pace};
 pub enum Due {
     /// It is left alone.
     Nothing,
-    /// It is told what this node knows.
+    /// It is sent what this node knows.
     Tell,
     /// It is asked to tell this node, since calls wait for it.
     Ask,
 }
 
-/// When a node is told, and when it is asked to tell.
+/// When a node is sent the state, and when it is asked for its own.
 #[derive(Clone, Copy, Debug, PartialEq, Eq)]
 pub struct Pacing {
-    /// When it is told.
+    /// When it is sent the state.
     pub telling: Pace,
     /// When it is asked to tell: after each time, it is left alone for longer.
     pub asking: Pace,
@@ -51,7 +51,7 @@ impl Pacing {
         is_awaited && self.asking.waits == 0
     }
 
-    // When the node is told, by whether it asked to be told.
+    // When the node is sent the state, by whether it asked.
     fn telling_at(&self, has_asked: bool) -> Pace
         ensures { result ≡ telling_at has_asked self.now }
     {
@@ -76,7 +76,7 @@ impl Pacing {
         }
     }
 
-    // When the node is told after it was looked at.
+    // When the node is sent the state, after it was looked at.
     fn telling_after(&self, is_awaited: bool, has_asked: bool, news: News) -> Pace
         ensures { result ≡ telling_after is_awaited has_asked news self.now }
     {

@@ -204,7 +204,7 @@ or_right : (b c : Bool) → (b || c) ≡ false → c ≡ false
 or_right false c none = none
 or_right true c none = let no : ⊥ = cc in absurd no
 
--- a member that is put among others, wherever it comes to stand
+-- a member that is put among others, wherever it is put
 put_by : (order : Ordering) (here there more : Members) → members_have_float here ≡ false → members_have_float there ≡ false →
     members_have_float more ≡ false → members_have_float (match_ordering order here there more) ≡ false
 put_by Less here there more h t m = h

@@ -1,4 +1,4 @@
--- What a recorded run comes to.
+-- The result of a recorded run.
 use Rattle.std.proofs.Common.{◌≡◌, List, ℕ, Result, Ok, Err, inl, inr}
 use Rattle.std.specs.Prelude.{◌⊎◌, IfErr, IfOk, Vec}
 use Rattle.std.specs.declared.alloc.Global.{Global}

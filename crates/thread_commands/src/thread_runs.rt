@@ -46,7 +46,7 @@ where
     requires writer { has_failed writer.old ≡ false }
     requires errors { has_failed errors.old ≡ false }
     // With status 0 the script has a plan, and what is written and flushed is its whole output, of some
-    // traces and receipts; and what it is warned of is said, of just these, unless that isn't wanted.
+    // traces and receipts; and what it is warned of is said, of exactly these, unless that isn't wanted.
     // Where answers are JSON objects, an object of each line that is said stands behind them.
     ensures done { OnStatus result 0 (IfInput I.remaining reader.old (λ input.
         PlaysSaying (answer_format options.entry.json) input (λ text said.

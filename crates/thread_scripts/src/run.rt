@@ -125,7 +125,7 @@ pub fn run_threads_warning<R: Threads + Wait + Sync, I: Read>(
     requires { has_failed reader.old ≡ false }
 
     // The script has a plan, this is its whole output, of some traces and receipts, and what is said is
-    // what it is warned of, of just these.
+    // what it is warned of, of exactly these.
     ensures ok { IfOk result (λ printed. IfInput I.remaining reader.old (λ input.
         ComesToSaying format input printed.items said.new)) }
 
