@@ -38,9 +38,9 @@ IsSharedFirst Stay config seed keeps seats had has was now = (has ≡ had) × (n
 IsSharedFirst FollowDemand config seed keeps seats had has was now =
     (result : Result ℕ NodeFault) × IsShareRound config seed keeps seats had has was now result
 
--- A round from a seat, over a wire. A peer that asked is answered; rights are shared first, where they follow demand; then each peer
--- is sent what is news for it, and what the wire brings is taken in. What was taken in and what was due is noted, and
--- whether a message showed that the node has lost its state is known
+-- A round from a seat, over a wire. Rights are shared first, if they follow demand. Then each peer is sent what is
+-- news for it, a peer that asked even without news, and what the wire brings is taken in. The round notes what was
+-- taken in and what was due, and says whether a message showed that the node has lost its state.
 pub record IsRound (config : Config) (seed : List ℕ) (keeps : Bool) (seats : ℕ) (says : ℕ → Bool → Type 0)
     (wanted : Rights) (had has : SeatState) (was now : List Recalled) (before after : Traffic) (ps qs : List Pace)
     (round : Round) (lost : Bool) : Type 0 where
